@@ -1,0 +1,3 @@
+pub mod DiskImages
+pub mod Moments
+pub mod Streams
