@@ -1,11 +1,11 @@
 -- Laws of images: what a stop leaves after a sync, after a write, after a cut.
-use Rattle.std.specs.Prelude.{◌⊎◌, max, min, slice_index}
+use Rattle.std.specs.Prelude.{◌-◌, replicate, ◌⊎◌, max, min, slice_index}
 use Rattle.std.specs.Prelude.{◌≡◌, ◌≤◌, ◌<◌, ◌+◌, ℕ, List, [], ◌∷◌, ◌++◌, length, take, drop, Bool, true, false, ◌&&◌, ◌||◌, nat_le, nat_lt, refl}
 use Rattle.std.proofs.Common.{inl, inr, ap, ◌∙◌, sym, subst, arith}
 use Rattle.std.proofs.lemmas.Bool.Decides.{nat_tests}
 use Rattle.std.proofs.lemmas.Grind.{common_steps}
-use Rattle.std.proofs.lemmas.List.{ext_get_or, get_or-take, get_or-drop, length-take, length-drop}
-use Rattle.tier_outside.specs.Disk.{resized, trim, Draft, IsImage, FrontStands, SameOutside, Writes, Cuts, settled, touch, reach, is_touched, written}
+use Rattle.std.proofs.lemmas.List.{append_assoc, take_at, ext_get_or, get_or-take, get_or-drop, length-take, length-drop}
+use Rattle.tier_outside.specs.Disk.{filled, resized, trim, Draft, IsImage, FrontStands, SameOutside, Writes, Cuts, settled, touch, reach, is_touched, written}
 
 -- what is settled is the only image
 pub settled_only : (bytes image : List ℕ) → IsImage (settled bytes) image → image ≡ bytes
@@ -188,3 +188,11 @@ resized_image size part old least most = record {
   where
     front : (i : ℕ) → i < part → i < length old → slice_index (resized part old) i ≡ slice_index old i
     front i within below = grind (arith, common_steps)
+
+-- a write behind some bytes
+pub written_after : (off : ℕ) (bytes front rest : List ℕ) → length front ≡ off
+    → written off bytes (front ++ rest) ≡ (front ++ bytes) ++ drop (off + length bytes) (filled (reach off (length bytes)) (front ++ rest))
+written_after off bytes front rest long =
+    let zeros : List ℕ = replicate (reach off (length bytes) - length (front ++ rest)) 0 in
+    ap (λ xs. xs ++ bytes ++ drop (off + length bytes) (filled (reach off (length bytes)) (front ++ rest)))
+    (ap (take off) (append_assoc front rest zeros) ∙ take_at front (rest ++ zeros) off long)

@@ -2,7 +2,8 @@
 use Rattle.std.specs.Prelude.{◌≡◌, ◌≤◌, ℕ, List, [], ◌∷◌, ◌++◌, length, Option, Some, None, refl}
 use Rattle.std.proofs.Common.{ap, ◌∙◌, sym, subst, inl, inr, arith}
 use Rattle.std.proofs.lemmas.List.{append-nil, append_assoc, append_cancel_left, length-append}
-use Rattle.tier_outside.specs.Disk.{Draft, EachImage}
+use Rattle.tier_outside.specs.Disk.{Draft, EachImage, IsImage, Restarts, Syncs}
+use Rattle.tier_outside.proofs.DiskImages.{settled_only}
 use Rattle.tier_outside.specs.Moments.{last, Now, Then, grown, Goes, EachMoment, Since, clock}
 
 -- the newest moment is now
@@ -126,3 +127,20 @@ pub clock_call : (step : Draft → Draft → Type 0) (a b : Option (List Draft))
 clock_call step a b (inl same) = subst (λ ms. clock a ≤ clock ms) (sym same) (omega arith)
 clock_call step None b (inr went) = omega arith
 clock_call step (Some ds) b (inr went) = subst (λ ms. length ds ≤ clock ms) (sym went.1) (omega (arith, length-append ds (went.0 ∷ [])))
+
+-- a sync adds no image
+pub since_sync : (a b c : Option (List Draft)) (P : List ℕ → Type 0)
+    → Now a (λ d. EachImage d P) → Since a b P → Now b (λ d. IsImage d d.content) → Goes Syncs b c → Since a c P
+since_sync a b c P was since reads goes =
+    since_step Syncs a b c P since goes
+    (now_weaker b (λ d. EachImage d P × IsImage d d.content) _
+    (λ d both e settles image is. subst P (sym (settled_only d.content image (subst (λ x. IsImage x image) settles is))) (both.0 d.content both.1))
+    (now_both b _ _ (now_since a b P was since) reads))
+
+-- nor does a restart
+pub since_restart : (a b c : Option (List Draft)) (P : List ℕ → Type 0) → Now a (λ d. EachImage d P) → Since a b P → Goes Restarts b c → Since a c P
+since_restart a b c P was since goes =
+    since_step Restarts a b c P since goes
+    (now_weaker b (λ d. EachImage d P) _
+    (λ d each e back image is. subst P (sym (settled_only e.content image (subst (λ x. IsImage x image) back.is is))) (each e.content back.image))
+    (now_since a b P was since))

@@ -1,0 +1,4 @@
+pub mod Chosen
+pub mod Pushed
+pub mod Settling
+pub mod Turns

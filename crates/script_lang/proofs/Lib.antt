@@ -1,0 +1,11 @@
+pub mod Breaks
+pub mod Options
+pub mod Joined
+pub mod Numbers
+pub mod Names
+pub mod Hex
+pub mod Subops
+pub mod Spelled
+pub mod Texts
+pub mod Vectors
+pub mod Steps

@@ -1,0 +1,4 @@
+pub mod Spelling
+pub mod Scripts
+pub mod Laws
+pub mod Reading

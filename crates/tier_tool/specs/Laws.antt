@@ -1,0 +1,32 @@
+-- What follows from the definition of the answers, in plain words.
+use Rattle.std.specs.Prelude.{◌≡◌, List, [], ◌∷◌, ◌++◌}
+use Rattle.obj_model.specs.declared.req.Req.{Req}
+use Rattle.obj_ops.specs.Stores.{Store, replay}
+use Rattle.script_lang.specs.declared.line.Line.{Line}
+use Rattle.script_lang.specs.declared.line.Line.TheVariants.{Op, Get}
+use Rattle.script_lang.specs.declared.line.Numbered.{Numbered}
+use Rattle.tier_tool.specs.Plain.{Plain, after, answers, begun, plain}
+
+-- a request before others, where the line is one
+abbrev pub with_request : Line → List Req → List Req
+with_request (Op req) others = req ∷ others
+with_request (Get client name vector) others = others
+
+-- the write requests among lines, in their order
+abbrev pub requests : List Numbered → List Req
+requests [] = []
+requests (n ∷ lines) = with_request n.line (requests lines)
+
+-- the store and its count behind lines
+abbrev pub behind : List Numbered → Plain → Plain
+behind [] p = p
+behind (n ∷ lines) p = behind lines (after p n.line)
+
+-- what lines are answered does not depend on the lines behind them
+abbrev pub LaterLinesChangeNothing : List Numbered → List Numbered → Type 0
+LaterLinesChangeNothing before others =
+    (store : Store) → plain (before ++ others) store ≡ plain before store ++ answers others (behind before (begun store))
+
+-- lines leave the store that their write requests leave, one after another
+abbrev pub RequestsMakeTheStore : List Numbered → Type 0
+RequestsMakeTheStore lines = (store : Store) → (behind lines (begun store)).store ≡ replay store (requests lines)

@@ -1,0 +1,5 @@
+pub mod Answers
+pub mod Laws
+pub mod Main
+pub mod Plain
+pub mod Texts

@@ -1,0 +1,18 @@
+//! What follows from the definition of the answers, in plain words. These calls do nothing: their contracts are the
+//! laws.
+ghost use Rattle.tier_tool.specs.Laws.{LaterLinesChangeNothing, RequestsMakeTheStore};
+
+use script_lang::Numbered;
+
+/// What lines are answered does not depend on the lines behind them.
+#[tactic(auto, using(crate::proofs::Ordered::later_lines))]
+pub fn later_lines_change_nothing(_before: &[Numbered], _others: &[Numbered])
+    ensures { LaterLinesChangeNothing _before.now _others.now }
+{}
+
+/// Lines leave the store that their write requests leave, one after another: readings, and the numbers of lines, have
+/// no part in it.
+#[tactic(auto, using(crate::proofs::Ordered::requests_make))]
+pub fn requests_make_the_store(_lines: &[Numbered])
+    ensures { RequestsMakeTheStore _lines.now }
+{}
