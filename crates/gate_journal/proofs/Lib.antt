@@ -1,0 +1,9 @@
+pub mod Images
+pub mod Records
+pub mod Steps
+pub mod Heads
+pub mod Walks
+pub mod Writes
+pub mod Adds
+pub mod Calls
+pub mod Laws

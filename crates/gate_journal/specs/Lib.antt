@@ -1,0 +1,4 @@
+pub mod Calls
+pub mod Journals
+pub mod Stands
+pub mod Steps

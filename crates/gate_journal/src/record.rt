@@ -1,0 +1,79 @@
+//! The bytes of a record.
+ghost use Rattle.std.specs.Prelude.{◌≡◌, ◌+◌, ◌<◌, ◌≤◌, ◌^◌, length, IfOk};
+ghost use Rattle.tier_outside.specs.Causes.{Rose};
+ghost use Rattle.tier_outside.specs.Moments.{Now};
+ghost use Rattle.gate_journal.specs.Journals.{behind_gate};
+ghost use Rattle.gate_journal.specs.Steps.{HeadRead, RecordRead};
+
+use crate::step::{CLOSED, OPEN};
+use byteorder::{BigEndian, ByteOrder};
+use obj_model::Bytes;
+use std::alloc::{AllocError, Global};
+use store_face::StoreFault;
+use tier_outside::Disk;
+
+/// What is written behind the gate of a record: its length, its payload and a closed gate.
+pub fn record_body(alloc: Global, payload: &[u8]) -> Result<Vec<u8>, AllocError>
+    requires { length payload.now < 2 ^ 32 }
+    ensures { IfOk result (λ body. body.items ≡ behind_gate payload.now) }
+{
+    let mut size = [0; 4];
+    BigEndian::write_u32(&mut size, payload.len() as u32);
+    let mut body = Vec::with_capacity(alloc, payload.len() + 5)?;
+    body.extend_from_slice(&size)?;
+    body.extend_from_slice(payload)?;
+    body.push(CLOSED)?;
+    Ok(body)
+}
+
+// The length of the payload behind an open gate, or `None` behind a closed one. Below the limit the payload and the gate behind it are
+// there.
+fn read_head<D: Disk>(disk: &mut D, gate: u64, limit: u64) -> Result<Option<u64>, StoreFault>
+    requires small { limit ≤ 2 ^ 41 }
+    requires there { Now (D.moments disk.old) (λ d. limit ≤ length d.content) }
+    ensures read { HeadRead gate limit (D.moments disk.old) (Rose (D.faults disk.old) (D.faults disk.new)) result }
+    ensures same { D.moments disk.new ≡ D.moments disk.old }
+    ensures later { D.faults disk.old ≤ D.faults disk.new }
+{
+    if limit <= gate {
+        return Err(StoreFault::BadImage { at: gate });
+    }
+    let mut head = [0; 5];
+    let count = disk.read_at(gate, &mut head)?;
+    if count == 0 {
+        return Err(StoreFault::BadImage { at: gate });
+    }
+    if head[0] != OPEN {
+        return Ok(None);
+    }
+    let size = BigEndian::read_u32(&head[1..]) as u64;
+    if limit - gate <= 5 + size {
+        return Err(StoreFault::BadImage { at: gate });
+    }
+    Ok(Some(size))
+}
+
+/// The payload of the record at a gate, or `None` where the gate is closed. Only bytes below the limit count, all of which are there.
+/// A length is tested against the limit before there is memory for it.
+pub fn read_record<D: Disk>(
+    alloc: Global,
+    disk: &mut D,
+    gate: u64,
+    limit: u64,
+) -> Result<Option<Bytes>, StoreFault>
+    requires small { limit ≤ 2 ^ 41 }
+    requires there { Now (D.moments disk.old) (λ d. limit ≤ length d.content) }
+    ensures read { RecordRead gate limit (D.moments disk.old) (Rose (D.faults disk.old) (D.faults disk.new)) result }
+    ensures same { D.moments disk.new ≡ D.moments disk.old }
+    ensures later { D.faults disk.old ≤ D.faults disk.new }
+{
+    let Some(size) = read_head(disk, gate, limit)? else {
+        return Ok(None);
+    };
+    let mut payload = vec![in alloc; 0; size as usize]?;
+    let count = disk.read_at(gate + 5, &mut payload)?;
+    if count < payload.len() {
+        return Err(StoreFault::BadImage { at: gate });
+    }
+    Ok(Some(Bytes::from_vec(payload)))
+}

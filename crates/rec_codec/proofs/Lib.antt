@@ -1,0 +1,9 @@
+pub mod Readers
+pub mod BlockLaws
+pub mod Loops
+pub mod Puts
+pub mod Tables
+pub mod ReplyLaws
+pub mod StateLaws
+pub mod Whole
+pub mod TxnLaws

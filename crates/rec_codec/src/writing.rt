@@ -1,0 +1,190 @@
+//! States as they are written: the length first, and then one buffer that is filled.
+ghost use Rattle.std.specs.Prelude.{◌≡◌, ◌<◌, ◌^◌, ◌++◌, All, IfOk, OnOk, length, None};
+ghost use Rattle.byteorder.specs.Endian.{big_bytes};
+ghost use Rattle.obj_model.specs.Names.{name_fault};
+ghost use Rattle.obj_model.specs.States.{IsTable, IsObjOrNone, IsState};
+ghost use Rattle.rec_codec.specs.Spelling.{name, string, why, reply, kept, kept_list, table, object_or_none, state_bytes, IsFitWhy, IsFitReply, IsNamed, IsNamedObj, IsTyped, SpellsState};
+
+use byteorder::{BigEndian, ByteOrder};
+use obj_model::{Kept, Name, NameState, NoMemory, Obj, PairMap, Reply, Why};
+use std::alloc::{AllocError, Global};
+
+pub(crate) fn put_u16(out: &mut Vec<u8>, number: u16) -> Result<(), AllocError>
+    ensures { OnOk result (out.new.items ≡ out.old.items ++ big_bytes 2 number) }
+{
+    let mut bytes = [0u8; 2];
+    BigEndian::write_u16(&mut bytes, number);
+    out.extend_from_slice(&bytes)
+}
+
+fn put_u32(out: &mut Vec<u8>, number: u32) -> Result<(), AllocError>
+    ensures { OnOk result (out.new.items ≡ out.old.items ++ big_bytes 4 number) }
+{
+    let mut bytes = [0u8; 4];
+    BigEndian::write_u32(&mut bytes, number);
+    out.extend_from_slice(&bytes)
+}
+
+fn put_u64(out: &mut Vec<u8>, number: u64) -> Result<(), AllocError>
+    ensures { OnOk result (out.new.items ≡ out.old.items ++ big_bytes 8 number) }
+{
+    let mut bytes = [0u8; 8];
+    BigEndian::write_u64(&mut bytes, number);
+    out.extend_from_slice(&bytes)
+}
+
+// A name behind its length.
+fn put_name(out: &mut Vec<u8>, text: &Name) -> Result<(), AllocError>
+    ensures put { OnOk result (out.new.items ≡ out.old.items ++ name text.now) }
+    ensures lawful { name_fault text.now ≡ None }
+{
+    let bytes = text.bytes();
+    out.push(bytes.len() as u8)?;
+    out.extend_from_slice(bytes)
+}
+
+// Bytes behind their length.
+pub(crate) fn put_string(out: &mut Vec<u8>, bytes: &[u8]) -> Result<(), AllocError>
+    requires { length bytes.now < 2 ^ 32 }
+    ensures { OnOk result (out.new.items ≡ out.old.items ++ string bytes.now) }
+{
+    put_u32(out, bytes.len() as u32)?;
+    out.extend_from_slice(bytes)
+}
+
+fn put_why(out: &mut Vec<u8>, reason: Why) -> Result<(), AllocError>
+    ensures put { OnOk result (out.new.items ≡ out.old.items ++ why reason) }
+    ensures fit { IsFitWhy reason }
+{
+    match reason {
+        Why::Exists => out.push(1)?,
+        Why::NoEnt => out.push(2)?,
+        Why::NoData => out.push(3)?,
+        Why::Canceled => out.push(4)?,
+        Why::Range => out.push(5)?,
+        Why::Overflow => out.push(6)?,
+        Why::TooBig { limit, asked } => {
+            out.push(7)?;
+            put_u64(out, limit)?;
+            put_u64(out, asked)?;
+        }
+    }
+    Ok(())
+}
+
+fn put_reply(out: &mut Vec<u8>, answer: Reply) -> Result<(), AllocError>
+    ensures put { OnOk result (out.new.items ≡ out.old.items ++ reply answer) }
+    ensures fit { IsFitReply answer }
+{
+    match answer {
+        Reply::Done { ver } => {
+            out.push(1)?;
+            put_u64(out, ver)
+        }
+        Reply::Refused { at, why, ver } => {
+            out.push(2)?;
+            out.push(at)?;
+            put_why(out, why)?;
+            put_u64(out, ver)
+        }
+    }
+}
+
+fn put_kept(out: &mut Vec<u8>, one: Kept) -> Result<(), AllocError>
+    ensures put { OnOk result (out.new.items ≡ out.old.items ++ kept one) }
+    ensures fit { IsFitReply one.reply }
+{
+    put_u16(out, one.client)?;
+    put_u64(out, one.tid)?;
+    put_reply(out, one.reply)
+}
+
+// The kept requests behind their number.
+fn put_kept_list(out: &mut Vec<u8>, list: &[Kept]) -> Result<(), AllocError>
+    requires { length list.now < 2 ^ 16 }
+    ensures put { OnOk result (out.new.items ≡ out.old.items ++ kept_list list.now) }
+    ensures fit { OnOk result (All (λ k. IsFitReply k.reply) list.now) }
+{
+    put_u16(out, list.len() as u16)?;
+    for one in list {
+        put_kept(out, *one)?;
+    }
+    Ok(())
+}
+
+// The pairs of a table behind their number.
+fn put_table(out: &mut Vec<u8>, pairs: &PairMap) -> Result<(), AllocError>
+    requires { IsTable 1024 pairs.now }
+    ensures put { OnOk result (out.new.items ≡ out.old.items ++ table pairs.now) }
+    ensures named { OnOk result (IsNamed pairs.now) }
+{
+    put_u16(out, pairs.len() as u16)?;
+    for (key, value) in pairs.iter() {
+        put_name(out, key)?;
+        put_string(out, value.as_slice())?;
+    }
+    Ok(())
+}
+
+// Whether there is an object, and the object.
+fn put_object(out: &mut Vec<u8>, obj: &Option<Obj>) -> Result<(), AllocError>
+    requires { IsObjOrNone obj.now }
+    ensures put { OnOk result (out.new.items ≡ out.old.items ++ object_or_none obj.now) }
+    ensures named { OnOk result (IsNamedObj obj.now) }
+{
+    match obj {
+        None => out.push(0)?,
+        Some(obj) => {
+            out.push(1)?;
+            put_string(out, obj.body.as_slice())?;
+            put_table(out, &obj.attrs)?;
+            put_table(out, &obj.omap)?;
+        }
+    }
+    Ok(())
+}
+
+// The spelling, put behind what is there.
+fn put_state(out: &mut Vec<u8>, state: &NameState) -> Result<(), AllocError>
+    requires { IsState state.now }
+    ensures put { OnOk result (out.new.items ≡ out.old.items ++ state_bytes state.now) }
+    ensures typed { OnOk result (IsTyped state.now) }
+{
+    put_u64(out, state.ver)?;
+    put_u64(out, state.seq)?;
+    put_object(out, &state.obj)?;
+    put_kept_list(out, state.seen.as_slice())?;
+    Ok(())
+}
+
+/// The one spelling of a state that is within its limits.
+pub fn write_state(alloc: Global, state: &NameState) -> Result<Vec<u8>, NoMemory>
+    requires { IsState state.now }
+    ensures { IfOk result (λ bytes. SpellsState bytes.items state.now) }
+{
+    let mut out = Vec::with_capacity(alloc, state_len(state))?;
+    put_state(&mut out, state)?;
+    Ok(out)
+}
+
+// The bytes of a table in a spelling.
+fn table_len(pairs: &PairMap) -> usize {
+    let mut total = 2usize;
+    for (key, value) in pairs.iter() {
+        total = total.saturating_add(5 + key.bytes().len());
+        total = total.saturating_add(value.as_slice().len());
+    }
+    total
+}
+
+// The bytes of a state's spelling, where no kept request was refused for its size.
+fn state_len(state: &NameState) -> usize {
+    let mut total = 19usize.saturating_add(state.seen.as_slice().len().saturating_mul(28));
+    if let Some(obj) = &state.obj {
+        total = total.saturating_add(4);
+        total = total.saturating_add(obj.body.as_slice().len());
+        total = total.saturating_add(table_len(&obj.attrs));
+        total = total.saturating_add(table_len(&obj.omap));
+    }
+    total
+}
