@@ -9,7 +9,8 @@ use Rattle.std.proofs.lemmas.List.Elements.{All-from_recursion, recursion_from_A
 use Rattle.byteorder.specs.Endian.{big_bytes}
 use Rattle.obj_model.specs.declared.change.Change.{Change}
 use Rattle.obj_model.specs.declared.change.Change.TheVariants.{Put, Remove}
-use Rattle.rec_codec.specs.Spelling.{string, key_of, store_key, change, txn_bytes, IsStoreKey, IsChange, AreApart, IsTxn, SpellsTxn}
+use Rattle.obj_model.specs.Changes.{key_of, IsStoreKey, IsChange, AreApart, IsTxn}
+use Rattle.rec_codec.specs.Spelling.{string, store_key, change, txn_bytes, SpellsTxn}
 use Rattle.rec_codec.specs.Reading.{Reader, then_at, behind_at, if_at, as_at, number_at, taken_at, string_at, store_key_at, change_behind, change_at, changes_at, is_among, are_apart, txn_at, whole}
 use Rattle.rec_codec.proofs.Readers.{IsBytes, Took, IsReader, then_reads, behind_reads, if_reads, as_reads, also_reads, Each, each_reads}
 use Rattle.rec_codec.proofs.BlockLaws.{byte_reads, u16_reads, string_reads, taken_reads}

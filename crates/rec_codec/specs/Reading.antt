@@ -16,7 +16,8 @@ use Rattle.obj_model.specs.declared.state.Obj.{Obj}
 use Rattle.obj_model.specs.declared.state.NameState.{NameState}
 use Rattle.rec_codec.specs.declared.fault.ReadError.{ReadError}
 use Rattle.rec_codec.specs.declared.fault.ReadError.TheVariants.{Memory, Wrong}
-use Rattle.rec_codec.specs.Spelling.{Entry, key_of}
+use Rattle.obj_model.specs.Changes.{key_of}
+use Rattle.rec_codec.specs.Spelling.{Entry}
 
 -- what stands at the front of bytes, and the bytes after it
 abbrev pub Reader : Type 0 → Type 0

@@ -1,10 +1,11 @@
 -- How records are spelled as bytes, and which values have a spelling. Numbers stand with their highest byte first.
-use Rattle.std.specs.Prelude.{◌≡◌, ◌≢◌, ◌≤◌, ◌<◌, ℕ, ◌^◌, List, [], ◌∷◌, ◌++◌, map, Option, Some, None, length, All}
-use Rattle.std.specs.List.{flat_map, AllByRecursion}
+use Rattle.std.specs.Prelude.{◌≡◌, ◌<◌, ℕ, ◌^◌, List, [], ◌∷◌, ◌++◌, map, Option, Some, None, length, All}
+use Rattle.std.specs.List.{flat_map}
 use Rattle.std.specs.FinMap as fin
 use Rattle.byteorder.specs.Endian.{big_bytes}
 use Rattle.obj_model.specs.Names.{name_cmp, name_fault}
 use Rattle.obj_model.specs.States.{IsState}
+use Rattle.obj_model.specs.Changes.{IsTxn}
 use Rattle.obj_model.specs.declared.change.Change.{Change}
 use Rattle.obj_model.specs.declared.change.Change.TheVariants.{Put, Remove}
 use Rattle.obj_model.specs.declared.reply.Why.{Why}
@@ -114,11 +115,6 @@ pub record SpellsState (bytes : List ℕ) (s : NameState) : Type 0 where
 
 -- ---- transactions
 
--- the key that a change speaks of
-abbrev pub key_of : Change → List ℕ
-key_of (Put key value) = key
-key_of (Remove key) = key
-
 -- the key of a store: two bytes of length, and its bytes
 abbrev pub store_key : List ℕ → List ℕ
 store_key key = big_bytes 2 (length key) ++ key
@@ -131,27 +127,6 @@ change (Remove key) = 2 ∷ store_key key
 -- the spelling of a transaction: the number of its changes, and these
 abbrev pub txn_bytes : List Change → List ℕ
 txn_bytes cs = big_bytes 1 (length cs) ++ flat_map change cs
-
--- a key of a store has 1 to 256 bytes
-abbrev pub IsStoreKey : List ℕ → Type 0
-IsStoreKey key = (1 ≤ length key) × (length key ≤ 256)
-
--- a change within its limits
-abbrev pub IsChange : Change → Type 0
-IsChange (Put key value) = IsStoreKey key × (length value ≤ 16777216)
-IsChange (Remove key) = IsStoreKey key
-
--- no two of them speak of one key
-abbrev pub AreApart : List Change → Type 0
-AreApart [] = Unit {0}
-AreApart (c ∷ cs) = AllByRecursion (λ d. key_of c ≢ key_of d) cs × AreApart cs
-
--- 1 to 8 changes of distinct keys
-pub record IsTxn (cs : List Change) : Type 0 where
-  pub some : 1 ≤ length cs
-  pub few : length cs ≤ 8
-  pub each : All IsChange cs
-  pub apart : AreApart cs
 
 -- the bytes, all of them, spell the transaction
 pub record SpellsTxn (bytes : List ℕ) (cs : List Change) : Type 0 where

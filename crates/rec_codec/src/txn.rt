@@ -1,7 +1,8 @@
 //! Transactions: they are read and written as 1 to 8 changes of distinct keys.
 ghost use Rattle.std.specs.Prelude.{◌≡◌, ◌++◌, All, Some, IfOk, IfSome, IfNone, OnOk, List, option_map};
 ghost use Rattle.obj_model.specs.declared.change.Change.{Change};
-ghost use Rattle.rec_codec.specs.Spelling.{key_of, store_key, change, txn_bytes, IsStoreKey, IsChange, IsTxn, SpellsTxn};
+ghost use Rattle.obj_model.specs.Changes.{key_of, IsStoreKey, IsChange, IsTxn};
+ghost use Rattle.rec_codec.specs.Spelling.{store_key, change, txn_bytes, SpellsTxn};
 ghost use Rattle.rec_codec.specs.Reading.{Gives, store_key_at, change_at, changes_at, is_among, are_apart, txn_at, whole};
 
 use crate::blocks::{bytes_at, taken_at, u8_at, u16_at};

@@ -2,7 +2,7 @@
 ghost use Rattle.std.specs.Prelude.{◌≡◌, true};
 ghost use Rattle.std.specs.Option.{option_copied};
 ghost use Rattle.store_face.specs.Views.{StoreView, Sound};
-ghost use Rattle.store_face.specs.Tables.{IsTxn};
+ghost use Rattle.obj_model.specs.Changes.{IsTxn};
 ghost use Rattle.store_face.specs.Calls.{Got, Listed, Committed, Reopened};
 
 use crate::StoreFault;
