@@ -13,3 +13,4 @@ mod step;
 pub use adding::{append, start};
 pub use journal::Journal;
 pub use reading::walk;
+pub use step::put;

@@ -14,8 +14,8 @@ pub const OPEN: u8 = 1;
 /// The value of the closed gates that are written.
 pub const CLOSED: u8 = 0;
 
-// Writes bytes and settles them.
-fn put<D: Disk>(disk: &mut D, off: u64, bytes: &[u8]) -> Result<(), DiskFault>
+/// Writes bytes at an offset and settles them: before that a stop leaves what one write of that range might leave.
+pub fn put<D: Disk>(disk: &mut D, off: u64, bytes: &[u8]) -> Result<(), DiskFault>
     requires { off + length bytes.now ≤ 2 ^ 41 }
     ensures any_moment { Leaves (D.moments disk.old) (D.moments disk.new) (λ d image. StopsIn off (length bytes.now) d image) }
     ensures done { OnOk result (Then (D.moments disk.old) (D.moments disk.new) (λ d e. (e ≡ settled (written off bytes.now d.content)) × StopsIn off (length bytes.now) d (written off bytes.now d.content))) }
