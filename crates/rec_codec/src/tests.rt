@@ -19,9 +19,9 @@ const REFUSED: [u8; 77] = [
 ];
 
 // An empty body, the attributes a of "x" and b of nothing, the omap entry ~ of "y".
-const TABLES: [u8; 48] = [
+const TABLES: [u8; 47] = [
     0, 0, 0, 0, 0, 0, 0, 1, 0, 0, 0, 0, 0, 0, 0, 1, 1, 0, 0, 0, 0, 0, 2, 1, 0x61, 0, 0, 0, 1, 0x78,
-    1, 0x62, 0, 0, 0, 0, 0, 1, 1, 0x7e, 0, 0, 0, 1, 0x79, 0, 0, 0,
+    1, 0x62, 0, 0, 0, 0, 0, 1, 1, 0x7e, 0, 0, 0, 1, 0x79, 0, 0,
 ];
 
 // Whether the bytes spell a state, which is then written as the same bytes.
@@ -34,7 +34,7 @@ fn is_state(alloc: Global, bytes: &[u8]) -> Result<bool, NoMemory> {
 
 #[test]
 fn worked_states(rt: HostRuntime) -> Result<(), Fail> {
-    let states: [&[u8]; 3] = [&FIRST, &REFUSED, &TABLES[..47]];
+    let states: [&[u8]; 3] = [&FIRST, &REFUSED, &TABLES];
     for (place, bytes) in states.iter().enumerate() {
         let verdict = is_state(rt.alloc(), bytes).ok().ok_or("memory")?;
         assert!(rt; verdict, "state {place}");
@@ -42,8 +42,11 @@ fn worked_states(rt: HostRuntime) -> Result<(), Fail> {
             let verdict = is_state(rt.alloc(), &bytes[..len]).ok().ok_or("memory")?;
             assert!(rt; !verdict, "the first {len} of state {place}");
         }
+        let mut longer = Vec::from_slice(rt.alloc(), bytes)?;
+        longer.push(0)?;
+        let verdict = is_state(rt.alloc(), &longer).ok().ok_or("memory")?;
+        assert!(rt; !verdict, "a byte behind state {place}");
     }
-    assert!(rt; !is_state(rt.alloc(), &TABLES).ok().ok_or("memory")?);
     Ok(())
 }
 
@@ -88,47 +91,49 @@ fn refused_requests(rt: HostRuntime) -> Result<(), Fail> {
     Ok(())
 }
 
-// Each byte at a place in one of the states above, and whether that spells a state.
-const FIRST_CHANGES: [(usize, u8, bool); 36] = [
-    (0, 1, false), // ver above seq
-    (7, 0, true), // ver 0
-    (7, 0xff, false), // ver above seq
-    (8, 1, true), // seq 2^56 + 1
-    (8, 0xff, false), // seq above 2^62
-    (15, 0, false), // seq below ver
-    (15, 0xff, true), // seq 255
-    (16, 0, false), // no object, and bytes that are left
-    (16, 0xff, false), // neither 0 nor 1
-    (17, 1, false), // a body longer than what is left
-    (20, 0, false), // 0x6162 attributes
-    (20, 0xff, false), // a body longer than what is left
-    (21, 0, true), // another body
-    (23, 0xff, true), // another body
-    (24, 1, false), // 256 attributes
-    (25, 1, false), // a key without bytes
-    (26, 0xff, false), // too many entries
-    (27, 1, false), // a key without bytes
-    (28, 1, false), // 257 kept requests
-    (29, 0, false), // no kept request, and bytes that are left
-    (29, 0xff, false), // 255 kept requests
-    (30, 1, false), // client 257
-    (30, 0xff, false), // client 65281
-    (31, 0, false), // client 0
-    (31, 0xff, true), // client 255
-    (32, 1, true), // tid 2^56 + 1
-    (32, 0xff, false), // tid above 2^62
-    (39, 0, true), // tid 0
-    (39, 0xff, true), // tid 255
-    (40, 0, false), // no tag of a reply
-    (40, 2, false), // a refusal for the reason 0
-    (40, 0xff, false), // no tag of a reply
-    (41, 0xff, true), // another version
-    (48, 0, true), // another version
-    (48, 1, true), // the same
-    (48, 0xff, true), // another version
+// With 00, 01 and ff at each place of the first state, eight places a row: y where that spells a state, n where not.
+const FIRST_VERDICTS: [[&[u8]; 3]; 7] = [
+    // ver: above seq, but for 0 and 1
+    [b"yyyyyyyy", b"nnnnnnny", b"nnnnnnnn"],
+    // seq: below ver where its last byte is 0, above 2^62 where its first is ff
+    [b"yyyyyyyn", b"yyyyyyyy", b"nyyyyyyy"],
+    // the tag: 0 leaves bytes over, ff means nothing; the length of the body: 0 and 1 make two bytes of "abc" the number
+    // of attributes, and all others are more than what is left; the body: any
+    [b"nyyynyyy", b"ynnnnyyy", b"nnnnnyyy"],
+    // attributes and entries: too many, or the first has a key of no bytes; kept requests: 0 leaves bytes over, and with
+    // more than 1 the second is not there; the client: 0, 257 and 65281 are none
+    [b"yyyyynyn", b"nnnnnyny", b"nnnnnnny"],
+    // tid: above 2^62 where its first byte is ff
+    [b"yyyyyyyy", b"yyyyyyyy", b"nyyyyyyy"],
+    // the tag of the reply: 0 and ff mean nothing; its version: any
+    [b"nyyyyyyy", b"yyyyyyyy", b"nyyyyyyy"],
+    [b"y", b"y", b"y"],
 ];
 
-// The same for the refused requests.
+// Whether the first state with another byte at a place spells a state.
+fn is_first_with(alloc: Global, place: usize, byte: u8) -> Result<bool, NoMemory> {
+    let mut bytes = FIRST;
+    if place < bytes.len() {
+        bytes[place] = byte;
+    }
+    is_state(alloc, &bytes)
+}
+
+#[test]
+fn each_byte_of_the_first(rt: HostRuntime) -> Result<(), Fail> {
+    for place in 0..FIRST.len() {
+        for (byte, verdicts) in [0, 1, 0xff].iter().zip(&FIRST_VERDICTS[place / 8]) {
+            let want = verdicts.get(place % 8).ok_or("a verdict")?;
+            let verdict = is_first_with(rt.alloc(), place, *byte)
+                .ok()
+                .ok_or("memory")?;
+            assert!(rt; verdict == (*want == b'y'), "{byte} at {place}");
+        }
+    }
+    Ok(())
+}
+
+// Each byte at a place of the refused requests, and whether that spells a state.
 const REFUSED_CHANGES: [(usize, u8, bool); 17] = [
     (16, 1, false), // an object of 131073 bytes
     (17, 2, false), // 514 kept requests
@@ -189,52 +194,87 @@ fn first_wrong(
 #[test]
 fn changed_bytes(rt: HostRuntime) -> Result<(), Fail> {
     let alloc = rt.alloc();
-    assert_eq!(rt; first_wrong(alloc, &FIRST, &FIRST_CHANGES)?, None);
     assert_eq!(rt; first_wrong(alloc, &REFUSED, &REFUSED_CHANGES)?, None);
-    assert_eq!(rt; first_wrong(alloc, &TABLES[..47], &TABLES_CHANGES)?, None);
+    assert_eq!(rt; first_wrong(alloc, &TABLES, &TABLES_CHANGES)?, None);
     Ok(())
 }
 
-// So many pairs with the keys a!! to a~~, all of whose values are so long.
-fn put_pairs(bytes: &mut Vec<u8>, count: u16, len: u16) -> Result<(), Fail> {
+// ver and seq of 2^62, and that there is an object.
+const LATEST: [u8; 17] = [0x40, 0, 0, 0, 0, 0, 0, 0, 0x40, 0, 0, 0, 0, 0, 0, 0, 1];
+
+// So many pairs with values of so many bytes, whose keys are as long as a name may be.
+fn put_pairs(alloc: Global, bytes: &mut Vec<u8>, count: u16, len: u16) -> Result<(), Fail> {
+    let front = vec![in alloc; b'a'; 253]?;
+    let value = vec![in alloc; 7u8; len as usize]?;
     bytes.extend_from_slice(&count.to_be_bytes())?;
     for place in 0..count {
         let low = (place % 64) as u8;
-        let high = (place / 64 % 64) as u8;
-        bytes.extend_from_slice(&[3, b'a', b'A' + high % 32, b'<' + low])?;
-        bytes.extend_from_slice(&[0, 0])?;
-        bytes.extend_from_slice(&len.to_be_bytes())?;
-        for _ in 0..len {
-            bytes.push(7)?;
-        }
+        let high = (place / 64 % 32) as u8;
+        bytes.push(255)?;
+        bytes.extend_from_slice(&front)?;
+        bytes.extend_from_slice(&[b'A' + high, b'<' + low])?;
+        bytes.extend_from_slice(&u32::from(len).to_be_bytes())?;
+        bytes.extend_from_slice(&value)?;
     }
     Ok(())
 }
 
-// A state with a body, attributes and an omap of such sizes.
-fn sized(alloc: Global, body: u32, attrs: u16, omap: u16) -> Result<Vec<u8>, Fail> {
-    let mut bytes = Vec::from_slice(alloc, &FIRST[..17])?;
-    bytes.extend_from_slice(&body.to_be_bytes())?;
-    for _ in 0..body {
-        bytes.push(9)?;
+// A request of each client from 1, with the tid 2^62, refused for its size.
+fn put_requests(bytes: &mut Vec<u8>, count: u16) -> Result<(), Fail> {
+    bytes.extend_from_slice(&count.to_be_bytes())?;
+    for place in 0..count {
+        bytes.extend_from_slice(&place.saturating_add(1).to_be_bytes())?;
+        bytes.extend_from_slice(&REFUSED[42..])?;
     }
-    put_pairs(&mut bytes, attrs, 16)?;
-    put_pairs(&mut bytes, omap, 8)?;
-    bytes.extend_from_slice(&FIRST[28..])?;
+    Ok(())
+}
+
+// A state's parts: bytes of the body, attributes, entries, bytes of each value, and clients.
+type Sizes = (u32, u16, u16, u16, u16);
+
+// The spelling of a state of such sizes, where they are within the limits.
+fn sized(alloc: Global, sizes: Sizes) -> Result<Vec<u8>, Fail> {
+    let (body, attrs, omap, value, clients) = sizes;
+    let mut bytes = Vec::from_slice(alloc, &LATEST)?;
+    bytes.extend_from_slice(&body.to_be_bytes())?;
+    bytes.extend_from_slice(&vec![in alloc; 9u8; body as usize]?)?;
+    put_pairs(alloc, &mut bytes, attrs, value)?;
+    put_pairs(alloc, &mut bytes, omap, value)?;
+    put_requests(&mut bytes, clients)?;
     Ok(bytes)
 }
 
 #[test]
-fn states_at_the_limits(rt: HostRuntime) -> Result<(), Fail> {
-    for (body, attrs, omap, want) in [
-        (1_048_576, 64, 1024, true),
-        (1_048_577, 1, 1, false),
-        (1, 65, 1, false),
-        (1, 1, 1025, false),
+fn state_at_its_limits(rt: HostRuntime) -> Result<(), Fail> {
+    let bytes = sized(rt.alloc(), (1_048_576, 64, 1024, 4096, 256))?;
+    assert_eq!(rt; bytes.len(), 5_797_403);
+    let state = read_state(rt.alloc(), &bytes)
+        .ok()
+        .ok_or("memory")?
+        .ok_or("a state")?;
+    let written = write_state(rt.alloc(), &state).ok().ok_or("memory")?;
+    assert!(rt; written == bytes);
+    assert_eq!(rt; state.seen.as_slice().len(), 256);
+    let obj = state.obj.ok_or("an object")?;
+    assert_eq!(rt; obj.body.as_slice().len(), 1_048_576);
+    assert!(rt; obj.attrs.len() == 64 && obj.omap.len() == 1024);
+    Ok(())
+}
+
+#[test]
+fn states_past_a_limit(rt: HostRuntime) -> Result<(), Fail> {
+    for (sizes, want) in [
+        ((1, 1, 1, 1, 1), true),
+        ((1_048_577, 1, 1, 1, 1), false),
+        ((1, 65, 1, 1, 1), false),
+        ((1, 1, 1025, 1, 1), false),
+        ((1, 1, 0, 4097, 1), false),
+        ((1, 0, 1, 4097, 1), false),
+        ((1, 1, 1, 1, 257), false),
     ] {
-        let bytes = sized(rt.alloc(), body, attrs, omap)?;
+        let bytes = sized(rt.alloc(), sizes)?;
         let verdict = is_state(rt.alloc(), &bytes).ok().ok_or("memory")?;
-        assert!(rt; verdict == want, "{body}, {attrs}, {omap}");
+        assert!(rt; verdict == want, "{sizes:?}");
     }
     Ok(())
 }
