@@ -1,0 +1,36 @@
+-- A log on a disk that may stop: what stands of it, and what a stop leaves while it is formatted.
+use Rattle.std.specs.Prelude.{◌≡◌, ◌⊎◌, ℕ, ◌<◌, ◌^◌, List, ◌∷◌}
+use Rattle.std.specs.FinMap as fin
+use Rattle.obj_model.specs.declared.change.Change.{Change}
+use Rattle.obj_model.specs.declared.change.Pool.{Pool}
+use Rattle.tier_outside.specs.Disk.{Draft, settled}
+use Rattle.gate_journal.specs.Stands.{StandsAs}
+use Rattle.gate_journal.specs.declared.journal.Journal.{Journal}
+use Rattle.store_face.specs.Tables.{Table}
+use Rattle.log_image.specs.Images.{head, AreTxns, made_by, HoldsLog, IsBlank, no_txns}
+
+-- the journal of a log takes the whole disk, up to 2^40 bytes
+pub record IsLogJournal (journal : Journal) : Type 0 where
+  pub start : journal.start ≡ 0
+  pub end_is : journal.end ≡ 2 ^ 40
+  pub within : journal.next < 2 ^ 40
+
+-- The log stands on the disk with this map, whatever a stop leaves: its bytes up to its closed gate are settled.
+pub record LogStands (role : Pool) (pair : ℕ) (journal : Journal) (table : Table) (d : Draft) : Type 0 where
+  pub payloads : List (List ℕ)
+  pub txns : List (List Change)
+  pub stands : StandsAs journal (head role pair ∷ payloads) d
+  pub each : AreTxns payloads txns
+  pub made : table ≡ made_by fin.empty txns
+
+-- the journal of a log without transactions
+abbrev pub first_journal : Journal
+first_journal = record { start = 0; next = 22; end = 2 ^ 40 }
+
+-- all that the disk reads as is settled
+abbrev pub IsSettled : Draft → Type 0
+IsSettled d = d ≡ settled d.content
+
+-- what a stop leaves while a blank disk is formatted: it is still blank, or holds a log without transactions
+abbrev pub BlankOrNew : Pool → ℕ → List ℕ → Type 0
+BlankOrNew role pair image = IsBlank role pair image ⊎ HoldsLog role pair image no_txns

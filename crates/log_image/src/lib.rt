@@ -1,0 +1,19 @@
+//! What a disk holds as a log of transactions: how it is recognized, formatted and read.
+//!
+//! A log is a journal whose first record tells what kind of disk it is, of which pool and of which pair of pools; each record behind it
+//! is a transaction, and the map is what they make of the empty one, in their order.
+#![tactic(auto)]
+
+mod blank;
+mod front;
+mod head;
+mod held;
+mod laws;
+
+pub use blank::{finish, format};
+pub use front::{Front, look};
+pub use held::read;
+pub use laws::{a_log_is_headed, a_log_is_not_refused, one_log};
+
+#[cfg(test)]
+mod tests;
