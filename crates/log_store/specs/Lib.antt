@@ -1,0 +1,4 @@
+pub mod Views
+pub mod Opens
+pub mod Commits
+pub mod Inner

@@ -1,0 +1,259 @@
+//! The store: its map in memory, which the journal on its disk makes.
+ghost use Rattle.std.specs.Prelude.{◌≡◌, ◌≤◌, ◌<◌, ◌+◌, ◌^◌, ◌++◌, ◌∷◌, [], true, map, vec_len, vec_capacity, IfOk, IfErr, OnErr};
+ghost use Rattle.std.specs.Option.{option_copied};
+ghost use Rattle.tier_outside.specs.Causes.{Rose};
+ghost use Rattle.tier_outside.specs.Disk.{IsImage};
+ghost use Rattle.gate_journal.specs.Stands.{Leaves};
+ghost use Rattle.obj_model.specs.Changes.{IsTxn};
+ghost use Rattle.store_face.specs.Calls.{Got, Listed, Committed, Reopened};
+ghost use Rattle.store_face.specs.Tables.{changed_by};
+ghost use Rattle.store_face.specs.Views.{Sound, one_map};
+ghost use Rattle.pool_map.specs.Pools.{at_rest};
+ghost use Rattle.store_face.specs.Views as store;
+ghost use Rattle.log_image.specs.Images.{HoldsLog};
+ghost use Rattle.log_store.specs.Commits.{SameStore, Uses, WithOrWithout};
+ghost use Rattle.log_store.specs.Opens.{KeepsRefused, Left, Opened, OpeningStops, Refused};
+ghost use Rattle.log_store.specs.Inner.{sides_of};
+ghost use Rattle.log_store.specs.Views.{HoldsSides, store_of};
+
+use crate::AttachFault;
+use crate::moment::Moment;
+use crate::opening::{open, reread};
+use gate_journal::{Journal, append};
+use obj_model::{Bytes, Change, EqualClone, Items, NoMemory, Pool};
+use pool_map::PoolMap;
+use rec_codec::write_txn;
+use std::alloc::Global;
+use std::marker::Model;
+use std::snapshot::Snapshot;
+use store_face::{Store, StoreFault};
+use tier_outside::Disk;
+
+/// A map from keys to values on one disk, of a pool and a pair of pools.
+///
+/// The whole map stands in memory too, so reading touches no disk. Each commit adds a record to the log, as long as there is room.
+#[derive(Drop)]
+pub struct LogStore<D: Disk + Drop> {
+    alloc: Global,
+    disk: D,
+    role: Pool,
+    pair: u64,
+    room: u64,
+    journal: Journal,
+    pool: PoolMap,
+    past: Vec<Moment>,
+    live: bool,
+}
+
+impl<D: Disk + Drop> Model for LogStore<D> {
+    ghost use Rattle.std.specs.Prelude.{◌+◌, map};
+    ghost use Rattle.log_store.specs.Inner.{IsWhole, sides_of};
+    ghost use Rattle.log_store.specs.Views.{LogView, coded_log, told};
+
+    ghost Value = { LogView };
+
+    ghost coded = { coded_log };
+
+    ghost view = { λ s. record { disk = D.moments s.disk; faults = D.faults s.disk; live = s.live; role = s.role; pair = s.pair; room = s.room; used = s.journal.next + 1; moments = told (D.moments s.disk) (map sides_of s.past.items) } };
+
+    ghost invariant = { λ s. IsWhole s.role s.pair s.room s.journal s.pool s.live (D.moments s.disk) (map sides_of s.past.items) };
+}
+
+// Copies of the changes.
+fn copies(alloc: Global, changes: &[Change]) -> Result<Vec<Change>, NoMemory>
+    ensures { IfOk result (λ copies. copies.items ≡ changes.now) }
+{
+    let mut copies = Vec::with_capacity(alloc, changes.len())?;
+    for change in changes {
+        copies.push(change.equal_clone()?)?;
+    }
+    Ok(copies)
+}
+
+// The changes that are prepared are made: a stop may leave the map of before or the one with them.
+fn change(pool: &mut PoolMap, past: &mut Vec<Moment>)
+    requires { vec_len past.old < vec_capacity past.old }
+    ensures pool { pool.new ≡ at_rest (changed_by pool.old.table pool.old.ready) }
+    ensures past { map sides_of past.new.items ≡ map sides_of past.old.items ++ (record { before = pool.old.table; after = changed_by pool.old.table pool.old.ready }) ∷ [] }
+    ensures room { vec_capacity past.new + vec_len past.old + 1 ≡ vec_capacity past.old + vec_len past.new }
+{
+    let before = Snapshot::of(pool);
+    pool.apply();
+    let after = Snapshot::of(pool);
+    past.push_reserved(Moment { before, after });
+}
+
+// A stop leaves this map and no other.
+fn settle(pool: &PoolMap, past: &mut Vec<Moment>)
+    requires { vec_len past.old < vec_capacity past.old }
+    ensures { map sides_of past.new.items ≡ map sides_of past.old.items ++ one_map pool.now.table ∷ [] }
+{
+    past.push_reserved(Moment::of(pool));
+}
+
+impl<D: Disk + Drop> LogStore<D> {
+    /// Opens the store on a disk, of this pool and pair of pools. The disk is restarted; an empty one is formatted; the log of this pool
+    /// and pair is read; anything else is refused, and stays as it is.
+    ///
+    /// The room, 64 to 2^40 bytes, bounds what commits may use of the disk, and nothing else: a longer log is read too. After an error the
+    /// disk is handed back.
+    pub fn attach(
+        alloc: Global,
+        disk: D,
+        role: Pool,
+        pair: u64,
+        room: u64,
+    ) -> Result<LogStore<D>, (AttachFault, D)>
+        requires room_least { 64 ≤ room }
+        requires room_most { room ≤ 2 ^ 40 }
+        ensures opened { IfOk result (λ s. Opened role pair room (D.moments disk) s) }
+        ensures stops { IfOk result (λ s. Leaves (D.moments disk) s.disk (OpeningStops role pair)) }
+        ensures later { IfOk result (λ s. D.faults disk ≤ s.faults) }
+        ensures refused { IfErr result (λ e. Refused role pair (D.moments disk) (Rose (D.faults disk) (D.faults e.1)) e.0) }
+        ensures kept { IfErr result (λ e. KeepsRefused (D.moments disk) (D.moments e.1) e.0) }
+        ensures stops_refused { IfErr result (λ e. Leaves (D.moments disk) (D.moments e.1) (OpeningStops role pair)) }
+        ensures later_refused { IfErr result (λ e. D.faults disk ≤ D.faults e.1) }
+    {
+        let mut disk = disk;
+        let mut past = match Vec::with_capacity(alloc, 1) {
+            Ok(past) => past,
+            Err(_) => return Err((AttachFault::NoMemory, disk)),
+        };
+        match open(alloc, &mut disk, role, pair) {
+            Ok((journal, pool)) => {
+                settle(&pool, &mut past);
+                Ok(LogStore {
+                    alloc,
+                    disk,
+                    role,
+                    pair,
+                    room,
+                    journal,
+                    pool,
+                    past,
+                    live: true,
+                })
+            }
+            Err(fault) => Err((fault, disk)),
+        }
+    }
+
+    /// The disk, which is left as it is. It takes no memory.
+    pub fn into_disk(self) -> D
+        ensures moments { D.moments result ≡ self.disk }
+        ensures faults { D.faults result ≡ self.faults }
+        ensures holds { store.Now (store_of self) (HoldsSides self.role self.pair (D.moments result)) }
+    {
+        let LogStore {
+            alloc: _,
+            disk,
+            role: _,
+            pair: _,
+            room: _,
+            journal: _,
+            pool: _,
+            past: _,
+            live: _,
+        } = self;
+        disk
+    }
+}
+
+impl<D: Disk + Drop> Store for LogStore<D> {
+    ghost use Rattle.log_store.specs.Views.{store_of};
+
+    ghost state = { λ s. store_of s };
+
+    fn is_live(&self) -> bool {
+        self.live
+    }
+
+    fn get(&mut self, key: &[u8]) -> Result<Option<Bytes>, StoreFault>
+        requires { (store_of self.old).live ≡ true }
+        ensures got { Got key.now (store_of self.old) (store_of self.new) result }
+        ensures same { self.new ≡ self.old }
+    {
+        match self.pool.get(key) {
+            Some(value) => Ok(Some(value.clone()?)),
+            None => Ok(None),
+        }
+    }
+
+    fn keys_after(&mut self, after: Option<&[u8]>, max: u32) -> Result<Items<Bytes>, StoreFault>
+        requires { (store_of self.old).live ≡ true }
+        ensures listed { Listed (option_copied after.entry) max (store_of self.old) (store_of self.new) result }
+        ensures same { self.new ≡ self.old }
+    {
+        Ok(self.pool.keys_after(after, max)?)
+    }
+
+    fn commit(&mut self, changes: &[Change]) -> Result<(), StoreFault>
+        requires live { (store_of self.old).live ≡ true }
+        requires lawful { IsTxn changes.now }
+        ensures committed { Committed changes.now (store_of self.old) (store_of self.new) result }
+        ensures any_moment { Leaves self.old.disk self.new.disk (λ d image. store.Now (store_of self.old) (λ s. WithOrWithout self.old changes.now s.before image)) }
+        ensures uses { Uses changes.now self.old self.new result }
+        ensures same { SameStore self.old self.new }
+    {
+        let payload = write_txn(self.alloc, changes)?;
+        let used = self.journal.next + 1;
+        let need = payload.len() as u64 + 5;
+        if self.room < used + need {
+            return Err(StoreFault::NoSpace {
+                used,
+                need,
+                limit: self.room,
+            });
+        }
+        self.past.reserve(2)?;
+        self.pool.prepare(copies(self.alloc, changes)?)?;
+        match append(
+            self.alloc,
+            &mut self.disk,
+            &mut self.journal,
+            payload.as_slice(),
+        ) {
+            Ok(()) => {
+                change(&mut self.pool, &mut self.past);
+                settle(&self.pool, &mut self.past);
+                Ok(())
+            }
+            Err(StoreFault::Disk) => {
+                change(&mut self.pool, &mut self.past);
+                self.live = false;
+                Err(StoreFault::Disk)
+            }
+            Err(StoreFault::NoMemory) => {
+                self.pool.forget();
+                Err(StoreFault::NoMemory)
+            }
+            Err(fault) => {
+                self.pool.forget();
+                Err(fault)
+            }
+        }
+    }
+
+    fn reopen(&mut self) -> Result<(), StoreFault>
+        ensures reopened { Reopened (store_of self.old) (store_of self.new) result }
+        ensures any_moment { Leaves self.old.disk self.new.disk IsImage }
+        ensures read { IfOk result (λ done. Left self.old.disk (λ image. store.Now (store_of self.new) (λ s. HoldsLog self.old.role self.old.pair image (record { table = s.before; used = self.new.used })))) }
+        ensures refused { OnErr result (self.new.used ≡ self.old.used) }
+        ensures same { SameStore self.old self.new }
+    {
+        self.live = false;
+        self.past.reserve(1)?;
+        // The old map is let go before the new one is read, so that both never take memory at once.
+        self.pool = PoolMap::new(self.alloc);
+        match reread(self.alloc, &mut self.disk, self.role, self.pair) {
+            Ok((journal, pool)) => {
+                settle(&pool, &mut self.past);
+                self.journal = journal;
+                self.pool = pool;
+                self.live = true;
+                Ok(())
+            }
+            Err(fault) => Err(fault),
+        }
+    }
+}
