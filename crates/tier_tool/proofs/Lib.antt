@@ -1,3 +1,11 @@
+pub mod Bases
+pub mod Going
 pub mod Lawful
+pub mod Lengths
 pub mod Ordered
+pub mod Outcomes
+pub mod Pools
+pub mod Runs
+pub mod Said
 pub mod Told
+pub mod Views

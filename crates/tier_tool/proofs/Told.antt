@@ -12,7 +12,7 @@ use Rattle.script_lang.specs.declared.line.Line.TheVariants.{Op, Get}
 use Rattle.script_lang.specs.declared.line.Numbered.{Numbered}
 use Rattle.tier_outside.specs.Causes.{Rose}
 use Rattle.tier_outside.specs.Streams.{Loses, Gains}
-use Rattle.tier_tool.specs.Main.{IsFront}
+use Rattle.tier_tool.specs.Lines.{IsFront}
 use Rattle.tier_tool.specs.Plain.{Plain, Answered, acts_after, answers, answered, after}
 use Rattle.tier_tool.specs.Texts.{line_text}
 

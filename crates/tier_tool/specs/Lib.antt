@@ -1,5 +1,9 @@
 pub mod Answers
+pub mod Bases
 pub mod Laws
+pub mod Lines
 pub mod Main
 pub mod Plain
+pub mod Pools
+pub mod Telling
 pub mod Texts

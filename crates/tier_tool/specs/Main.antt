@@ -1,15 +1,26 @@
--- What a run does, from the words of its command line and the bytes of its script to the bytes put and the status.
-use Rattle.std.specs.Prelude.{◌≡◌, ◌<◌, ◌⊎◌, ℕ, List, [], ◌∷◌, ◌++◌, length, map, take, Option, IfSome, codes}
+-- What a run does, from the words of its command line and the bytes of its script to the bytes put, the status, and the base pool's disk.
+use Rattle.std.specs.Prelude.{◌≡◌, ◌≢◌, ◌<◌, ◌≤◌, ◌^◌, ◌⊎◌, ℕ, List, [], ◌∷◌, length, take, Option, None, IfSome, codes}
 use Rattle.std.specs.List.{concat}
 use Rattle.std.specs.FinMap as fin
+use Rattle.obj_model.specs.declared.change.Pool.TheVariants.{Base}
+use Rattle.obj_ops.specs.Stores.{Store}
 use Rattle.script_lang.specs.Scripts.{IsScript, IsFault}
 use Rattle.script_lang.specs.declared.line.Numbered.{Numbered}
 use Rattle.script_lang.specs.declared.read.Cause.{Cause}
+use Rattle.tier_outside.specs.Disk.{Draft, EachImage}
+use Rattle.tier_outside.specs.Moments.{Now}
 use Rattle.tier_outside.specs.Streams.{Loses, Gains}
+use Rattle.store_face.specs.Tables.{Table}
+use Rattle.log_image.specs.Fronts.{IsBad, IsOf}
+use Rattle.log_image.specs.Images.{HoldsMap, IsBlank}
+use Rattle.log_store.specs.Opens.{Left, OpeningStops}
+use Rattle.tier_tool.specs.declared.pair.DiskPair.{DiskPair}
 use Rattle.tier_tool.specs.declared.reading.Unread.{Unread}
 use Rattle.tier_tool.specs.declared.reading.Unread.TheVariants.{Fault, NoMemory}
-use Rattle.tier_tool.specs.Plain.{plain}
-use Rattle.tier_tool.specs.Texts.{usage_text, fault_text, line_text}
+use Rattle.tier_tool.specs.Bases.{StandsFor}
+use Rattle.tier_tool.specs.Lines.{EndsAs, Ending, IsFront, IsLeft, Said, Says}
+use Rattle.tier_tool.specs.Plain.{Plain, begun}
+use Rattle.tier_tool.specs.Texts.{bad_image_text, fault_text, usage_text, wrong_pair_text}
 
 -- the words ask for a run: there is one, and it is `run`
 abbrev pub AskRun : List (List ℕ) → Type 0
@@ -22,11 +33,6 @@ IsAtEnd left = IfSome left (λ bytes. bytes ≡ [])
 -- the source was read whole: to its end, or past the most bytes that a script may have
 abbrev pub IsReadWhole : Option (List ℕ) → List ℕ → Type 0
 IsReadWhole left script = IsAtEnd left ⊎ (268435456 < length script)
-
--- the one is the other's beginning
-pub record IsFront (front whole : List ℕ) : Type 0 where
-  pub rest : List ℕ
-  pub joined : front ++ rest ≡ whole
 
 -- all texts were put, and the status is the one that is due then
 pub record PutAll (texts : List (List ℕ)) (due : ℕ) (put : List ℕ) (status : ℕ) : Type 0 where
@@ -54,58 +60,134 @@ Tells texts due sink_rose put status = PutAll texts due put status ⊎ SinkFaile
 abbrev pub MakesAndTells : List (List ℕ) → ℕ → Type 0 → List ℕ → ℕ → Type 0
 MakesAndTells texts due sink_rose put status = Tells texts due sink_rose put status ⊎ RanOut texts put status
 
+-- ---- the base pool's disk
+
+-- what the one pair's part says of its base
+abbrev pub base_moments : {D : Type 0} → (D → Option (List Draft)) → List (DiskPair D) → Option (List Draft)
+base_moments moments [] = None
+base_moments moments (pair ∷ pairs) = moments pair.base
+
+abbrev pub base_faults : {D : Type 0} → (D → ℕ) → List (DiskPair D) → ℕ
+base_faults faults [] = 0
+base_faults faults (pair ∷ pairs) = faults pair.base
+
+-- a room that a log may have
+abbrev pub IsRoom : ℕ → Type 0
+IsRoom room = (64 ≤ room) × (room ≤ 2 ^ 40)
+
+-- there is one pair, and its base has a room that a log may have
+abbrev pub IsOnePair : {D : Type 0} → List (DiskPair D) → Type 0
+IsOnePair [] = ⊥
+IsOnePair (pair ∷ []) = IsRoom pair.base_room
+IsOnePair (pair ∷ more ∷ pairs) = ⊥
+
+-- the one pair is handed back: its cache, which is not used yet, and its rooms are as they were
+abbrev pub IsHandedBack : {D : Type 0} → List (DiskPair D) → List (DiskPair D) → Type 0
+IsHandedBack (pair ∷ []) (back ∷ []) = (back.cache ≡ pair.cache) × (back.cache_room ≡ pair.cache_room) × (back.base_room ≡ pair.base_room)
+IsHandedBack old new = ⊥
+
+-- whatever a stop leaves of the disk that is handed back stands so to its moment before the run
+abbrev pub BackLeaves : Option (List Draft) → Option (List Draft) → (Draft → List ℕ → Type 0) → Type 0
+BackLeaves old new Q = Now old (λ d. Now new (λ e. EachImage e (λ image. Q d image)))
+
+-- An image is opened with this map: it is blank, and the map is empty, or it holds the map. The base of the first pair has the number 257.
+abbrev pub OpensMap : List ℕ → Table → Type 0
+OpensMap image t = (IsBlank Base 257 image × (t ≡ fin.empty)) ⊎ HoldsMap Base 257 image t
+
+-- ---- how a run ends
+
 -- the words do not ask for a run: the usage is told, with status 2, and nothing is read
-pub record IsMisused (words : List (List ℕ)) (sink_rose : Type 0) (script put : List ℕ) (status : ℕ) : Type 0 where
+pub record IsMisused (words : List (List ℕ)) (sink_rose : Type 0) (base_old base_new : Option (List Draft)) (script put : List ℕ) (status : ℕ) : Type 0 where
   pub words_refused : ¬ (AskRun words)
   pub untouched : script ≡ []
+  pub base_same : base_new ≡ base_old
   pub told : Tells (usage_text ∷ []) 2 sink_rose put status
 
 -- the source failed before its end: status 7, and nothing is put
-pub record SourceFailed (source_rose : Type 0) (put : List ℕ) (status : ℕ) : Type 0 where
+pub record SourceFailed (source_rose : Type 0) (base_old base_new : Option (List Draft)) (put : List ℕ) (status : ℕ) : Type 0 where
   pub ended : status ≡ 7
   pub cause : source_rose
+  pub base_same : base_new ≡ base_old
   pub silent : put ≡ []
 
--- there was no memory before it was known what is to be put: status 9, and nothing is put
-pub record LacksMemory (put : List ℕ) (status : ℕ) : Type 0 where
+-- there was no memory before it was known what is to be put: status 9, and nothing is put; the base may have been formatted
+pub record LacksMemory (base_old base_new : Option (List Draft)) (put : List ℕ) (status : ℕ) : Type 0 where
   pub ended : status ≡ 9
   pub silent : put ≡ []
+  pub base_kept : BackLeaves base_old base_new (OpeningStops Base 257)
 
--- the script is refused: its fault is told, with status 4
-pub record TellsFault (script : List ℕ) (sink_rose : Type 0) (put : List ℕ) (status : ℕ) : Type 0 where
+-- the script is refused: its fault is told, with status 4, and no disk is touched
+pub record TellsFault (script : List ℕ) (sink_rose : Type 0) (base_old base_new : Option (List Draft)) (put : List ℕ) (status : ℕ) : Type 0 where
   pub line : ℕ
   pub cause : Cause
   pub fault : IsFault script line cause
+  pub base_same : base_new ≡ base_old
   pub told : MakesAndTells (fault_text line cause ∷ []) 4 sink_rose put status
 
--- the script is accepted: its lines are answered from one plain store that is empty at first, with status 0
-pub record TellsAnswers (script : List ℕ) (sink_rose : Type 0) (put : List ℕ) (status : ℕ) : Type 0 where
+-- the base's disk failed while it was opened: status 6, and nothing is put
+pub record BaseFailed (disk_rose : Type 0) (base_old base_new : Option (List Draft)) (put : List ℕ) (status : ℕ) : Type 0 where
+  pub ended : status ≡ 6
+  pub cause : disk_rose
+  pub silent : put ≡ []
+  pub base_kept : BackLeaves base_old base_new (OpeningStops Base 257)
+
+-- what a stop left of the base's disk is refused, which is told with status 5: it is no log of a base at some offset, or of another pair
+pub record RefusesImage (sink_rose : Type 0) (base_old base_new : Option (List Draft)) (put : List ℕ) (status : ℕ) : Type 0 where
+  pub why : List ℕ
+  pub cause : ((at : ℕ) × (why ≡ bad_image_text at) × Left base_old (λ image. IsBad Base 257 image at))
+      ⊎ ((other : ℕ) × (why ≡ wrong_pair_text other 257) × (other ≢ 257) × Left base_old (IsOf Base other))
+  pub base_kept : BackLeaves base_old base_new (OpeningStops Base 257)
+  pub told : MakesAndTells (why ∷ []) 5 sink_rose put status
+
+-- Lines were said from a map that stands for a store: each is answered as the plain store answers it. Whatever a stop leaves of the disk
+-- that is handed back holds a map that stands for the plain store behind the lines that were said; or, where a line was begun that was
+-- not said, for that store with its act too. So an act that was told survives any stop.
+pub record SaidFrom (t : Table) (store : Store) (lines : List Numbered) (said : List Said) (left : List Numbered) (ending : Ending) (base_new : Option (List Draft)) : Type 0 where
+  pub now : Plain
+  pub says : Says t (begun store) lines said left now
+  pub kept : Now base_new (λ e. EachImage e (λ image. (u : Table) × HoldsMap Base 257 image u × IsLeft now ending u))
+
+-- Lines are carried out on the base from the map that an image of its disk was opened with.
+pub record CarriesLines (lines : List Numbered) (disk_rose sink_rose : Type 0) (base_old base_new : Option (List Draft)) (put : List ℕ) (status : ℕ) : Type 0 where
+  pub said : List Said
+  pub left : List Numbered
+  pub ending : Ending
+  pub ends : EndsAs disk_rose sink_rose said left ending put status
+  pub from : Left base_old (λ image. (t : Table) × OpensMap image t × ((store : Store) → StandsFor t store → SaidFrom t store lines said left ending base_new))
+
+-- the script is accepted, and its lines are carried out
+pub record AnswersLines (script : List ℕ) (disk_rose sink_rose : Type 0) (base_old base_new : Option (List Draft)) (put : List ℕ) (status : ℕ) : Type 0 where
   pub lines : List Numbered
-  pub said : IsScript script lines
-  pub told : MakesAndTells (map line_text (plain lines fin.empty)) 0 sink_rose put status
+  pub is_script : IsScript script lines
+  pub carried : CarriesLines lines disk_rose sink_rose base_old base_new put status
 
 -- the source was read to its end, or past the most bytes that a script may have, and what it gave was carried out
-pub record CarriesOut (left : Option (List ℕ)) (sink_rose : Type 0) (script put : List ℕ) (status : ℕ) : Type 0 where
+pub record CarriesOut (left : Option (List ℕ)) (disk_rose sink_rose : Type 0) (base_old base_new : Option (List Draft)) (script put : List ℕ) (status : ℕ) : Type 0 where
   pub read : IsReadWhole left script
-  pub told : TellsFault script sink_rose put status ⊎ TellsAnswers script sink_rose put status
+  pub told : TellsFault script sink_rose base_old base_new put status
+      ⊎ BaseFailed disk_rose base_old base_new put status
+      ⊎ RefusesImage sink_rose base_old base_new put status
+      ⊎ AnswersLines script disk_rose sink_rose base_old base_new put status
 
 -- how a run ends that the words ask for
-abbrev pub RunEnds : Option (List ℕ) → Type 0 → Type 0 → List ℕ → List ℕ → ℕ → Type 0
-RunEnds left source_rose sink_rose script put status =
-    SourceFailed source_rose put status ⊎ LacksMemory put status ⊎ CarriesOut left sink_rose script put status
+abbrev pub RunEnds : Option (List ℕ) → (source_rose disk_rose sink_rose : Type 0) → (base_old base_new : Option (List Draft)) → List ℕ → List ℕ → ℕ → Type 0
+RunEnds left source_rose disk_rose sink_rose base_old base_new script put status =
+    SourceFailed source_rose base_old base_new put status
+    ⊎ LacksMemory base_old base_new put status
+    ⊎ CarriesOut left disk_rose sink_rose base_old base_new script put status
 
 -- the words ask for a run
-pub record IsRun (words : List (List ℕ)) (left : Option (List ℕ)) (source_rose sink_rose : Type 0) (script put : List ℕ) (status : ℕ) : Type 0 where
+pub record IsRun (words : List (List ℕ)) (left : Option (List ℕ)) (source_rose disk_rose sink_rose : Type 0) (base_old base_new : Option (List Draft)) (script put : List ℕ) (status : ℕ) : Type 0 where
   pub words_taken : AskRun words
-  pub ends : RunEnds left source_rose sink_rose script put status
+  pub ends : RunEnds left source_rose disk_rose sink_rose base_old base_new script put status
 
 -- a whole run: the bytes that the source gave, the bytes that the sink took, and how it ended
-pub record Ran (words : List (List ℕ)) (left_old left_new held_old held_new : Option (List ℕ)) (source_rose sink_rose : Type 0) (status : ℕ) : Type 0 where
+pub record Ran (words : List (List ℕ)) (left_old left_new held_old held_new : Option (List ℕ)) (source_rose disk_rose sink_rose : Type 0) (base_old base_new : Option (List Draft)) (status : ℕ) : Type 0 where
   pub script : List ℕ
   pub given : Loses left_old left_new script
   pub put : List ℕ
   pub taken : Gains held_old held_new put
-  pub ends : IsMisused words sink_rose script put status ⊎ IsRun words left_new source_rose sink_rose script put status
+  pub ends : IsMisused words sink_rose base_old base_new script put status ⊎ IsRun words left_new source_rose disk_rose sink_rose base_old base_new script put status
 
 -- the source gave some bytes
 abbrev pub GaveSome : Option (List ℕ) → Option (List ℕ) → Type 0
@@ -121,6 +203,10 @@ abbrev pub Took : Option (List ℕ) → Option (List ℕ) → (List ℕ → Type
 Took held_old held_new P = (put : List ℕ) × Gains held_old held_new put × P put
 
 -- a script was carried out, or memory lacked before it was known what is to be put
-abbrev pub Carries : List ℕ → Type 0 → List ℕ → ℕ → Type 0
-Carries script sink_rose put status =
-    LacksMemory put status ⊎ TellsFault script sink_rose put status ⊎ TellsAnswers script sink_rose put status
+abbrev pub Carries : List ℕ → (disk_rose sink_rose : Type 0) → (base_old base_new : Option (List Draft)) → List ℕ → ℕ → Type 0
+Carries script disk_rose sink_rose base_old base_new put status =
+    LacksMemory base_old base_new put status
+    ⊎ TellsFault script sink_rose base_old base_new put status
+    ⊎ BaseFailed disk_rose base_old base_new put status
+    ⊎ RefusesImage sink_rose base_old base_new put status
+    ⊎ AnswersLines script disk_rose sink_rose base_old base_new put status

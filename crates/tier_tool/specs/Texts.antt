@@ -83,3 +83,28 @@ answer_text place (Worn limit) = codes "worn " ++ decimal limit
 -- what is put for a line: its number, a space, its answer and a newline
 abbrev pub line_text : Answered → List ℕ
 line_text a = decimal a.number ++ codes " " ++ answer_text a.place a.answer ++ codes "\n"
+
+-- what is put for a line whose act has no room in the base pool: how much is used, how much more is needed, and the limit, in bytes
+abbrev pub no_space_text : ℕ → ℕ → ℕ → ℕ → List ℕ
+no_space_text number used need limit =
+    decimal number ++ codes " nospace base " ++ decimal used ++ codes " " ++ decimal need ++ codes " " ++ decimal limit ++ codes "\n"
+
+-- what is put for a line whose act the base pool's store is too worn for
+abbrev pub worn_text : ℕ → ℕ → List ℕ
+worn_text number limit = decimal number ++ codes " worn " ++ decimal limit ++ codes "\n"
+
+-- what is put for a line on a name whose value spells no state
+abbrev pub bad_record_text : ℕ → List ℕ → List ℕ
+bad_record_text number name = decimal number ++ codes " badrecord base " ++ name ++ codes "\n"
+
+-- what is put for a line in which the base pool's disk failed
+abbrev pub disk_fault_text : ℕ → List ℕ
+disk_fault_text number = decimal number ++ codes " fault base\n"
+
+-- what is put where the base's disk is refused: what stands at this offset is no log
+abbrev pub bad_image_text : ℕ → List ℕ
+bad_image_text at = codes "image base 0 bad " ++ decimal at ++ codes "\n"
+
+-- the log is of another pair than the one wanted
+abbrev pub wrong_pair_text : ℕ → ℕ → List ℕ
+wrong_pair_text found want = codes "image base 0 pair " ++ decimal found ++ codes " " ++ decimal want ++ codes "\n"

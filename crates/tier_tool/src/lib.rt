@@ -1,21 +1,25 @@
-//! The program but for its outside: a script read from a source, answered from a plain object store, and put into
-//! a sink.
+//! The program but for its outside: a script read from a source, carried out on the base pool's store on its disk, and what is said of its
+//! lines put into a sink.
 //!
 //! `tier_main` is all that the program does. Its contract says the way from the words of the command line and the
-//! bytes of the script to the bytes put and the status.
+//! bytes of the script to the bytes put, the status, and what a stop leaves of the base's disk.
 #![tactic(auto)]
 
 mod answer;
+mod base;
 mod ended;
 mod laws;
-mod plain;
+mod pair;
+mod pool;
 mod reading;
 mod run;
+mod saying;
 mod telling;
 mod text;
 
 pub use ended::Ended;
 pub use laws::{later_lines_change_nothing, requests_make_the_store};
+pub use pair::DiskPair;
 pub use run::tier_main;
 
 #[cfg(test)]

@@ -1,16 +1,19 @@
 //! The top call of the program. Its promise is the whole way from the words of the command line and the bytes of the
-//! script to the bytes put and the status.
-ghost use Rattle.std.specs.Prelude.{◌≡◌, ◌≤◌, ◌↔◌, IsTrue, map, string_bytes};
-ghost use Rattle.script_lang.specs.Scripts.{IsScript};
+//! script to the bytes put, the status, and what a stop leaves of the base's disk.
+ghost use Rattle.std.specs.Prelude.{◌≡◌, ◌≤◌, ◌↔◌, IsTrue, All, map, string_bytes};
+ghost use Rattle.script_lang.specs.Spelling.{IsLine};
 ghost use Rattle.tier_outside.specs.Causes.{Rose};
-ghost use Rattle.tier_tool.specs.Main.{AskRun, Carries, Ran, Took};
+ghost use Rattle.tier_tool.specs.Main.{AskRun, Carries, IsHandedBack, IsOnePair, IsRoom, Ran, Took, base_faults, base_moments};
+ghost use Rattle.tier_tool.specs.Telling.{RunsOn};
 
 use crate::ended::{Ended, MISUSED, OUT_OF_MEMORY, SOURCE_FAILED};
+use crate::pair::DiskPair;
+use crate::pool::BasePool;
 use crate::reading::{Unread, read_whole};
-use crate::telling::{tell, tell_answers, tell_fault};
-use script_lang::{ScriptFault, read_script};
+use crate::telling::{tell, tell_fault, tell_lines, tell_unopened};
+use script_lang::{Numbered, ScriptFault, read_script};
 use std::alloc::Global;
-use tier_outside::{Sink, Source};
+use tier_outside::{Disk, Sink, Source};
 
 // What is put where the words of the command line are refused.
 const USAGE: &str =
@@ -18,32 +21,45 @@ const USAGE: &str =
 
 /// Does all that the program does. `words` are those of the command line, without the program's name.
 ///
-/// With the one word `run` it reads the whole script, carries its lines out one after another on a plain object store
-/// that is empty at first, and puts each answer, a line of text, in one call of the sink. A script that is refused
-/// puts the one line `script LINE CAUSE`, and any other words put the usage line.
+/// With the one word `run` it reads the whole script, opens the base pool on the base disk of the one pair, carries the lines out one
+/// after another on it, and puts what is said of each, a line of text, in one call of the sink, before the next is carried out. A script
+/// that is refused puts the one line `script LINE CAUSE`, a base disk that is refused one that begins with `image base 0`, and any other
+/// words put the usage line. The cache disk is not used yet.
+///
+/// The room of the base is the bytes that its log may use, 64 to 2^40. The disks are handed back in every case. An act that was told
+/// survives any stop of the base's disk.
 ///
 /// It ends with the status that `Ended` explains, and returns on every input. It reads at most 268,439,552 bytes of
-/// the script, and keeps the script and all objects in memory.
-pub fn tier_main<S: Source, K: Sink>(
+/// the script, and keeps the script and the base's map in memory.
+pub fn tier_main<S: Source, K: Sink, D: Disk + Send + Drop>(
     alloc: Global,
     words: &[String],
     script: &mut S,
     out: &mut K,
-) -> Ended
-    ensures ran { Ran (map string_bytes words.now) (S.left script.old) (S.left script.new) (K.held out.old) (K.held out.new) (Rose (S.faults script.old) (S.faults script.new)) (Rose (K.faults out.old) (K.faults out.new)) result.status }
+    disks: Vec<DiskPair<D>>,
+) -> Ended<D>
+    requires one_pair { IsOnePair disks.items }
+    ensures ran { Ran (map string_bytes words.now) (S.left script.old) (S.left script.new) (K.held out.old) (K.held out.new) (Rose (S.faults script.old) (S.faults script.new)) (Rose (base_faults D.faults disks.items) (base_faults D.faults result.disks.items)) (Rose (K.faults out.old) (K.faults out.new)) (base_moments D.moments disks.items) (base_moments D.moments result.disks.items) result.status }
+    ensures back { IsHandedBack disks.items result.disks.items }
     ensures source_later { S.faults script.old ≤ S.faults script.new }
     ensures sink_later { K.faults out.old ≤ K.faults out.new }
+    ensures disk_later { base_faults D.faults disks.items ≤ base_faults D.faults result.disks.items }
 {
     if !ask_run(words) {
         let status = tell(USAGE.as_bytes(), MISUSED, out);
-        return Ended { status };
+        return Ended { status, disks };
     }
-    let status = match read_whole(alloc, script) {
-        Ok(bytes) => run_script(alloc, bytes.as_slice(), out),
-        Err(Unread::Fault) => SOURCE_FAILED,
-        Err(Unread::NoMemory) => OUT_OF_MEMORY,
-    };
-    Ended { status }
+    match read_whole(alloc, script) {
+        Ok(bytes) => run_script(alloc, bytes.as_slice(), out, disks),
+        Err(Unread::Fault) => Ended {
+            status: SOURCE_FAILED,
+            disks,
+        },
+        Err(Unread::NoMemory) => Ended {
+            status: OUT_OF_MEMORY,
+            disks,
+        },
+    }
 }
 
 // Whether the words ask for a run.
@@ -57,13 +73,89 @@ fn ask_run(words: &[String]) -> bool
 }
 
 // Carries out a script that was read whole.
-fn run_script<K: Sink>(alloc: Global, script: &[u8], out: &mut K) -> u8
-    ensures told { Took (K.held out.old) (K.held out.new) (λ put. Carries script.now (Rose (K.faults out.old) (K.faults out.new)) put result) }
-    ensures later { K.faults out.old ≤ K.faults out.new }
+fn run_script<K: Sink, D: Disk + Send + Drop>(
+    alloc: Global,
+    script: &[u8],
+    out: &mut K,
+    disks: Vec<DiskPair<D>>,
+) -> Ended<D>
+    requires one_pair { IsOnePair disks.items }
+    ensures told { Took (K.held out.old) (K.held out.new) (λ put. Carries script.now (Rose (base_faults D.faults disks.items) (base_faults D.faults result.disks.items)) (Rose (K.faults out.old) (K.faults out.new)) (base_moments D.moments disks.items) (base_moments D.moments result.disks.items) put result.status) }
+    ensures back { IsHandedBack disks.items result.disks.items }
+    ensures sink_later { K.faults out.old ≤ K.faults out.new }
+    ensures disk_later { base_faults D.faults disks.items ≤ base_faults D.faults result.disks.items }
 {
     match read_script(alloc, script) {
-        Ok(lines) => tell_answers(alloc, lines.as_slice(), out),
-        Err(ScriptFault::Bad { line, cause }) => tell_fault(alloc, line, cause, out),
-        Err(ScriptFault::NoMemory) => OUT_OF_MEMORY,
+        Ok(lines) => run_lines(alloc, lines.as_slice(), out, disks),
+        Err(ScriptFault::Bad { line, cause }) => Ended {
+            status: tell_fault(alloc, line, cause, out),
+            disks,
+        },
+        Err(ScriptFault::NoMemory) => Ended {
+            status: OUT_OF_MEMORY,
+            disks,
+        },
+    }
+}
+
+// Carries lines out on the base of the one pair.
+fn run_lines<K: Sink, D: Disk + Send + Drop>(
+    alloc: Global,
+    lines: &[Numbered],
+    out: &mut K,
+    disks: Vec<DiskPair<D>>,
+) -> Ended<D>
+    requires one_pair { IsOnePair disks.items }
+    requires lawful { All (λ n. IsLine n.line) lines.now }
+    ensures told { Took (K.held out.old) (K.held out.new) (λ put. RunsOn lines.now (Rose (base_faults D.faults disks.items) (base_faults D.faults result.disks.items)) (Rose (K.faults out.old) (K.faults out.new)) (base_moments D.moments disks.items) (base_moments D.moments result.disks.items) put result.status) }
+    ensures back { IsHandedBack disks.items result.disks.items }
+    ensures sink_later { K.faults out.old ≤ K.faults out.new }
+    ensures disk_later { base_faults D.faults disks.items ≤ base_faults D.faults result.disks.items }
+{
+    let mut disks = disks;
+    let Some(
+        DiskPair {
+            cache,
+            base,
+            cache_room,
+            base_room,
+        },
+    ) = disks.pop()
+    else {
+        return Ended {
+            status: MISUSED,
+            disks,
+        };
+    };
+    let (status, base) = run_on(alloc, lines, out, base, base_room);
+    disks.push_reserved(DiskPair {
+        cache,
+        base,
+        cache_room,
+        base_room,
+    });
+    Ended { status, disks }
+}
+
+// Opens a base on its disk, and carries lines out on it. The disk is given back in every case.
+fn run_on<K: Sink, D: Disk + Send + Drop>(
+    alloc: Global,
+    lines: &[Numbered],
+    out: &mut K,
+    base: D,
+    room: u64,
+) -> (u8, D)
+    requires room { IsRoom room }
+    requires lawful { All (λ n. IsLine n.line) lines.now }
+    ensures told { Took (K.held out.old) (K.held out.new) (λ put. RunsOn lines.now (Rose (D.faults base) (D.faults result.1)) (Rose (K.faults out.old) (K.faults out.new)) (D.moments base) (D.moments result.1) put result.0) }
+    ensures sink_later { K.faults out.old ≤ K.faults out.new }
+    ensures disk_later { D.faults base ≤ D.faults result.1 }
+{
+    match BasePool::attach(alloc, base, room) {
+        Ok(mut pool) => {
+            let status = tell_lines(alloc, lines, &mut pool, out);
+            (status, pool.into_disk())
+        }
+        Err((fault, base)) => (tell_unopened(alloc, fault, out), base),
     }
 }

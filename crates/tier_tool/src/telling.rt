@@ -1,19 +1,23 @@
-//! Puts the texts of a run into the sink, one text a call. The promise: all of them, or a beginning of them where the
-//! sink failed or memory lacked.
-ghost use Rattle.std.specs.Prelude.{◌≡◌, ◌≤◌, ◌<◌, ◌-◌, ◌^◌, ◌++◌, [], ◌∷◌, OnOk, All, map};
-ghost use Rattle.std.specs.FinMap as fin;
+//! Puts the texts of a run into the sink, one text a call. The promise: what was put is what is said of the lines, in their order, and a
+//! line's text is put before the next line is carried out.
+ghost use Rattle.std.specs.Prelude.{◌≡◌, ◌≤◌, ◌<◌, ◌+◌, ◌-◌, ◌^◌, ◌++◌, [], ◌∷◌, true, OnOk, All};
 ghost use Rattle.script_lang.specs.Spelling.{IsLine};
+ghost use Rattle.store_face.specs.Views.{Sound};
 ghost use Rattle.tier_outside.specs.Causes.{Rose};
+ghost use Rattle.tier_tool.specs.Bases.{GoesOn};
+ghost use Rattle.tier_tool.specs.Lines.{TellsLines};
 ghost use Rattle.tier_tool.specs.Main.{Took, Tells, MakesAndTells};
-ghost use Rattle.tier_tool.specs.Plain.{plain, answered, after};
-ghost use Rattle.tier_tool.specs.Texts.{fault_text, line_text, cause_word};
+ghost use Rattle.tier_tool.specs.Telling.{TellsLine, TellsUnopened};
+ghost use Rattle.tier_tool.specs.Texts.{fault_text, cause_word, disk_fault_text, bad_image_text, wrong_pair_text};
 
-use crate::ended::{ANSWERED, OUT_OF_MEMORY, REFUSED, SINK_FAILED};
-use crate::plain::PlainStore;
+use crate::ended::{ANSWERED, DISK_FAILED, IMAGE_REFUSED, OUT_OF_MEMORY, REFUSED, SINK_FAILED};
+use crate::saying::{Unsaid, say_line};
 use crate::text::Text;
+use log_store::AttachFault;
 use obj_model::NoMemory;
 use script_lang::{Cause, Numbered};
 use std::alloc::Global;
+use store_face::Store;
 use tier_outside::Sink;
 
 /// Puts one text. The status is the one that is due where the sink takes it.
@@ -39,44 +43,109 @@ pub fn tell_fault<K: Sink>(alloc: Global, line: u32, cause: Cause, out: &mut K) 
     tell(text.as_slice(), REFUSED, out)
 }
 
-/// Carries all lines out on an empty plain store, and puts the answer to each before the next is carried out.
-pub fn tell_answers<K: Sink>(alloc: Global, lines: &[Numbered], out: &mut K) -> u8
-    requires { All (λ n. IsLine n.line) lines.now }
-    ensures told { Took (K.held out.old) (K.held out.new) (λ put. MakesAndTells (map line_text (plain lines.now fin.empty)) 0 (Rose (K.faults out.old) (K.faults out.new)) put result) }
+/// Puts why the base was not opened, where there is more to say than a status.
+pub fn tell_unopened<K: Sink>(alloc: Global, fault: AttachFault, out: &mut K) -> u8
+    ensures told { Took (K.held out.old) (K.held out.new) (λ put. TellsUnopened fault (Rose (K.faults out.old) (K.faults out.new)) put result) }
     ensures later { K.faults out.old ≤ K.faults out.new }
 {
-    let mut store = PlainStore::new(alloc);
+    match fault {
+        AttachFault::Disk => DISK_FAILED,
+        AttachFault::BadImage { at } => tell_bad_image(alloc, at, out),
+        AttachFault::WrongPair { found, want } => tell_wrong_pair(alloc, found, want, out),
+        AttachFault::NoMemory => OUT_OF_MEMORY,
+    }
+}
+
+/// Carries all lines out on a live store, and puts what is said of each before the next is carried out.
+pub fn tell_lines<P: Store, K: Sink>(
+    alloc: Global,
+    lines: &[Numbered],
+    pool: &mut P,
+    out: &mut K,
+) -> u8
+    requires live { (P.state pool.old).live ≡ true }
+    requires lawful { All (λ n. IsLine n.line) lines.now }
+    ensures told { Took (K.held out.old) (K.held out.new) (λ put. TellsLines lines.now (P.state pool.old) (P.state pool.new) (Rose (P.state pool.old).faults (P.state pool.new).faults) (Rose (K.faults out.old) (K.faults out.new)) put result) }
+    ensures goes_on { GoesOn (P.state pool.old) (P.state pool.new) }
+    ensures sink_later { K.faults out.old ≤ K.faults out.new }
+    ensures disk_later { (P.state pool.old).faults ≤ (P.state pool.new).faults }
+{
+    // A live store has one map, which is a fact that this call brings along.
+    let _ = pool.is_live();
     let mut text = Text::new(alloc);
+    let mut acts = 0;
     for numbered in lines {
-        let Ok(()) = answer_line(alloc, numbered, &mut store, &mut text) else {
-            return OUT_OF_MEMORY;
-        };
-        match out.put(text.as_slice()) {
+        match tell_line(alloc, numbered, &mut acts, &mut text, pool, out) {
             Ok(()) => {}
-            Err(_) => return SINK_FAILED,
+            Err(status) => return status,
         }
     }
     ANSWERED
 }
 
-// Carries a line out, and makes the text of its answer.
-fn answer_line(
+// Carries a line out, and puts what is said of it. An error is the status with which the run ends.
+fn tell_line<P: Store, K: Sink>(
     alloc: Global,
     numbered: &Numbered,
-    store: &mut PlainStore,
+    acts: &mut u64,
     text: &mut Text,
-) -> Result<(), NoMemory>
+    pool: &mut P,
+    out: &mut K,
+) -> Result<(), u8>
+    requires live { (P.state pool.old).live ≡ true }
     requires lawful { IsLine numbered.now.line }
-    requires room { store.old.acts < 2 ^ 64 - 1 }
-    ensures told { OnOk result (text.new ≡ line_text (answered store.old numbered.now)) }
-    ensures stands { OnOk result (store.new ≡ after store.old numbered.now.line) }
+    requires room { acts.old < 2 ^ 64 - 1 }
+    ensures told { Took (K.held out.old) (K.held out.new) (λ put. TellsLine numbered.now acts.old acts.new (P.state pool.old) (P.state pool.new) (Rose (P.state pool.old).faults (P.state pool.new).faults) (Rose (K.faults out.old) (K.faults out.new)) put result) }
+    ensures sound { Sound (P.state pool.new) }
+    ensures goes_on { GoesOn (P.state pool.old) (P.state pool.new) }
+    ensures few { acts.new ≤ acts.old + 1 }
+    ensures sink_later { K.faults out.old ≤ K.faults out.new }
+    ensures disk_later { (P.state pool.old).faults ≤ (P.state pool.new).faults }
 {
-    let answer = store.answer(alloc, &numbered.line)?;
-    text.clear();
-    text.push_number(u64::from(numbered.number))?;
-    text.push(" ")?;
-    answer.tell(store.acts(), text)?;
-    text.push("\n")
+    match say_line(alloc, numbered, acts, text, pool) {
+        Ok(()) => match out.put(text.as_slice()) {
+            Ok(()) => Ok(()),
+            Err(_) => Err(SINK_FAILED),
+        },
+        Err(Unsaid::Disk) => Err(tell_disk_fault(alloc, numbered.number, out)),
+        Err(Unsaid::NoMemory) => Err(OUT_OF_MEMORY),
+    }
+}
+
+// Puts that the base's disk failed in a line.
+fn tell_disk_fault<K: Sink>(alloc: Global, number: u32, out: &mut K) -> u8
+    ensures told { Took (K.held out.old) (K.held out.new) (λ put. MakesAndTells (disk_fault_text number ∷ []) 6 (Rose (K.faults out.old) (K.faults out.new)) put result) }
+    ensures later { K.faults out.old ≤ K.faults out.new }
+{
+    let mut text = Text::new(alloc);
+    if write_disk_fault(number, &mut text).is_err() {
+        return OUT_OF_MEMORY;
+    }
+    tell(text.as_slice(), DISK_FAILED, out)
+}
+
+// Puts that the base's disk holds no log of a base.
+fn tell_bad_image<K: Sink>(alloc: Global, at: u64, out: &mut K) -> u8
+    ensures told { Took (K.held out.old) (K.held out.new) (λ put. MakesAndTells (bad_image_text at ∷ []) 5 (Rose (K.faults out.old) (K.faults out.new)) put result) }
+    ensures later { K.faults out.old ≤ K.faults out.new }
+{
+    let mut text = Text::new(alloc);
+    if write_bad_image(at, &mut text).is_err() {
+        return OUT_OF_MEMORY;
+    }
+    tell(text.as_slice(), IMAGE_REFUSED, out)
+}
+
+// Puts that the base's disk holds the log of another pair.
+fn tell_wrong_pair<K: Sink>(alloc: Global, found: u64, want: u64, out: &mut K) -> u8
+    ensures told { Took (K.held out.old) (K.held out.new) (λ put. MakesAndTells (wrong_pair_text found want ∷ []) 5 (Rose (K.faults out.old) (K.faults out.new)) put result) }
+    ensures later { K.faults out.old ≤ K.faults out.new }
+{
+    let mut text = Text::new(alloc);
+    if write_wrong_pair(found, want, &mut text).is_err() {
+        return OUT_OF_MEMORY;
+    }
+    tell(text.as_slice(), IMAGE_REFUSED, out)
 }
 
 // Makes the text of a script's fault.
@@ -87,6 +156,34 @@ fn write_fault(line: u32, cause: Cause, text: &mut Text) -> Result<(), NoMemory>
     text.push_number(u64::from(line))?;
     text.push(" ")?;
     text.push(cause_word(cause))?;
+    text.push("\n")
+}
+
+// Makes the text of a fault of the base's disk in a line.
+fn write_disk_fault(number: u32, text: &mut Text) -> Result<(), NoMemory>
+    ensures { OnOk result (text.new ≡ text.old ++ disk_fault_text number) }
+{
+    text.push_number(u64::from(number))?;
+    text.push(" fault base\n")
+}
+
+// Makes the text for a disk whose log breaks at an offset.
+fn write_bad_image(at: u64, text: &mut Text) -> Result<(), NoMemory>
+    ensures { OnOk result (text.new ≡ text.old ++ bad_image_text at) }
+{
+    text.push("image base 0 bad ")?;
+    text.push_number(at)?;
+    text.push("\n")
+}
+
+// Makes the text for a disk of another pair than the one wanted.
+fn write_wrong_pair(found: u64, want: u64, text: &mut Text) -> Result<(), NoMemory>
+    ensures { OnOk result (text.new ≡ text.old ++ wrong_pair_text found want) }
+{
+    text.push("image base 0 pair ")?;
+    text.push_number(found)?;
+    text.push(" ")?;
+    text.push_number(want)?;
     text.push("\n")
 }
 

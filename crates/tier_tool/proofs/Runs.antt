@@ -1,0 +1,165 @@
+-- How a run on the base ends, from how it was opened, what was told, and how it was closed.
+use Rattle.std.proofs.Common.{◌≡◌, inl, inr, ◌≤◌, ℕ, List, [], ◌∷◌, ◌++◌, Option, Some, None, refl, sym, ap, subst, ◌∙◌}
+use Rattle.obj_model.specs.declared.change.Pool.TheVariants.{Base}
+use Rattle.obj_ops.specs.Stores.{Store}
+use Rattle.script_lang.specs.declared.line.Numbered.{Numbered}
+use Rattle.script_lang.specs.Scripts.{IsScript}
+use Rattle.tier_outside.specs.Causes.{Rose}
+use Rattle.tier_outside.specs.Disk.{Draft, EachImage}
+use Rattle.tier_outside.specs.Moments.{Now, last, grown}
+use Rattle.tier_outside.proofs.Moments.{now_since, now_weaker}
+use Rattle.gate_journal.specs.Stands.{Leaves}
+use Rattle.store_face.specs.Tables.{Table}
+use Rattle.store_face.specs.Views.{Sides, one_map}
+use Rattle.store_face.specs.Views as store
+use Rattle.log_image.specs.Images.{HoldsMap, Log}
+use Rattle.log_store.specs.Opens.{Left, Opened, OpeningStops, OpensAs, Refused}
+use Rattle.log_store.specs.Views.{HoldsSide, HoldsSides, LogView, store_of, told}
+use Rattle.log_store.specs.declared.fault.AttachFault.{AttachFault}
+use Rattle.log_store.specs.declared.fault.AttachFault.TheVariants as fault
+use Rattle.tier_tool.specs.Bases.{GoesOn, StandsFor}
+use Rattle.tier_tool.specs.Lines.{EndsAs, Ending, IsLeft, Said, SaysFrom, TellsLines}
+use Rattle.tier_tool.specs.Lines.Ending.{Whole, Unheard, Stopped}
+use Rattle.tier_tool.specs.Main.{BackLeaves, Carries, IsReadWhole, OpensMap, RunEnds, SaidFrom}
+use Rattle.tier_tool.specs.Plain.{Plain}
+use Rattle.tier_tool.specs.Telling.{RunsOn, TellsUnopened}
+use Rattle.tier_tool.specs.Texts.{bad_image_text, wrong_pair_text}
+use Rattle.tier_tool.proofs.Told.{rose_later}
+use Rattle.tier_tool.proofs.Views.{now_same}
+
+abbrev Drafts : Type 0
+Drafts = Option (List Draft)
+
+-- ---- the base was not opened
+
+-- what a stop leaves now was left by a stop since, or nothing changed
+pub back_leaves : (old new : Drafts) → Leaves old new (OpeningStops Base 257) → BackLeaves old new (OpeningStops Base 257)
+back_leaves None new left = tt
+back_leaves (Some ds) new left = now_since (Some ds) new (OpeningStops Base 257 (last ds)) (λ image is. inl is) left
+
+pub unopened_runs : (lines : List Numbered) (f : AttachFault) (old new : Drafts) (disk_rose sink_rose : Type 0) (put : List ℕ) (status : ℕ) → Refused Base 257 old disk_rose f
+    → Leaves old new (OpeningStops Base 257) → TellsUnopened f sink_rose put status → RunsOn lines disk_rose sink_rose old new put status
+unopened_runs lines fault.Disk old new disk_rose sink_rose put status refused left tells =
+    inr (inl (record { ended = tells.0; cause = refused; silent = tells.1; base_kept = back_leaves old new left }))
+unopened_runs lines (fault.BadImage at) old new disk_rose sink_rose put status refused left tells =
+    inr (inr (inl (record { why = bad_image_text at; cause = inl (at, refl, refused); base_kept = back_leaves old new left; told = tells })))
+unopened_runs lines (fault.WrongPair found want) old new disk_rose sink_rose put status refused left tells =
+    inr (inr (inl (record {
+      why = wrong_pair_text found want;
+      cause = inr (found, ap (λ k. wrong_pair_text found k) refused.0, refused.1, refused.2);
+      base_kept = back_leaves old new left;
+      told = tells;
+    })))
+unopened_runs lines fault.NoMemory old new disk_rose sink_rose put status refused left tells =
+    inl (record { ended = tells.0; silent = tells.1; base_kept = back_leaves old new left })
+
+-- ---- the base was opened
+
+ends_weaker : (disk_rose whole_disk sink_rose : Type 0) (said : List Said) (left : List Numbered) (ending : Ending) (put : List ℕ) (status : ℕ) → (disk_rose → whole_disk)
+    → EndsAs disk_rose sink_rose said left ending put status → EndsAs whole_disk sink_rose said left ending put status
+ends_weaker disk_rose whole_disk sink_rose said left Whole put status weaker ends = ends
+ends_weaker disk_rose whole_disk sink_rose said left Unheard put status weaker ends = ends
+ends_weaker disk_rose whole_disk sink_rose said left (Stopped n) put status weaker ends = record {
+  others = ends.others;
+  at = ends.at;
+  how = elim ends.how [
+    | inl failed ↦ inl (record { ended = failed.ended; cause = weaker failed.cause; all = failed.all })
+    | inr (inl failed) ↦ inr (inl (record {
+      ended = failed.ended;
+      cause = weaker failed.cause;
+      sink_cause = failed.sink_cause;
+      part = failed.part;
+      front = failed.front;
+      heard = failed.heard;
+    }))
+    | inr (inr lacking) ↦ inr (inr lacking)
+  ];
+}
+
+opens_map : (image : List ℕ) (t : Table) (used : ℕ) → OpensAs Base 257 (record { table = t; used = used }) image → OpensMap image t
+opens_map image t used (inl blank) = inl (blank.0, ap (λ (log : Log). log.table) blank.1)
+opens_map image t used (inr holds) = inr (used, holds)
+
+-- whatever a stop leaves of the disk holds a map that was left
+kept_now : (base : Drafts) (s : Sides) (q : Plain) (ending : Ending) → HoldsSides Base 257 base s → IsLeft q ending s.before → IsLeft q ending s.after
+    → Now base (λ e. EachImage e (λ image. (u : Table) × HoldsMap Base 257 image u × IsLeft q ending u))
+kept_now base s q ending holds before after_ =
+    now_weaker base (λ e. EachImage e (HoldsSide Base 257 s)) (λ e. EachImage e (λ image. (u : Table) × HoldsMap Base 257 image u × IsLeft q ending u))
+    (λ e each image is. one image (each image is)) holds
+  where
+    one : (image : List ℕ) → HoldsSide Base 257 s image → (u : Table) × HoldsMap Base 257 image u × IsLeft q ending u
+    one image (inl h) = (s.before, h, before)
+    one image (inr h) = (s.after, h, after_)
+
+kept_said : (t : Table) (from : Store) (lines : List Numbered) (said : List Said) (left : List Numbered) (ending : Ending) (w : LogView) (base : Drafts) (ss more : List Sides)
+    → w.moments ≡ store.grown (Some ss) more → store.Now (store_of w) (HoldsSides Base 257 base) → SaysFrom t from lines said left ending (store_of w) → SaidFrom t from lines said left ending base
+kept_said t from lines said left ending w base ss more grew holds says =
+    let there = Some (ss ++ more) in
+    record {
+      now = says.now;
+      says = says.says;
+      kept = kept_now base (store.last (ss ++ more)) says.now ending (now_same w.moments there (HoldsSides Base 257 base) grew holds)
+          (now_same w.moments there (λ s. IsLeft says.now ending s.before) grew says.before) (now_same w.moments there (λ s. IsLeft says.now ending s.after) grew says.after_);
+    }
+
+pub opened_runs : (lines : List Numbered) (room : ℕ) (old base : Drafts) (v w : LogView) (disk_rose whole_disk sink_rose : Type 0) (put : List ℕ) (status : ℕ) → (disk_rose → whole_disk)
+    → Opened Base 257 room old v → Leaves old v.disk (OpeningStops Base 257) → GoesOn (store_of v) (store_of w) → store.Now (store_of w) (HoldsSides Base 257 base)
+    → TellsLines lines (store_of v) (store_of w) disk_rose sink_rose put status → RunsOn lines whole_disk sink_rose old base put status
+opened_runs lines room old base v w disk_rose whole_disk sink_rose put status weaker opened stops goes holds tells =
+    inr (inr (inr (record {
+      said = tells.said;
+      left = tells.left;
+      ending = tells.ending;
+      ends = ends_weaker disk_rose whole_disk sink_rose tells.said tells.left tells.ending put status weaker tells.ends;
+      from = from old stops.grew opened.from;
+    })))
+  where
+    From : List ℕ → Type 0
+    From image = (t : Table) × OpensMap image t × ((st : Store) → StandsFor t st → SaidFrom t st lines tells.said tells.left tells.ending base)
+
+    from : (a : Drafts) → v.disk ≡ grown a stops.more → Left a (OpensAs Base 257 (record { table = opened.table; used = v.used }))
+        → Left a (λ image. (t : Table) × OpensMap image t × ((st : Store) → StandsFor t st → SaidFrom t st lines tells.said tells.left tells.ending base))
+    from None grew left = tt
+    from (Some ds) grew left =
+        let one = one_map opened.table ∷ [] in
+        let tells_of : v.moments ≡ Some one = opened.told_is ∙ ap (λ x. told x one) grew in
+        let says = now_same v.moments (Some one) (λ (s : Sides). (st : Store) → StandsFor s.before st → SaysFrom s.before st lines tells.said tells.left tells.ending (store_of w)) tells_of tells.from in
+        let later : w.moments ≡ store.grown (Some one) goes.more = goes.grew ∙ ap (λ m. store.grown m goes.more) tells_of in (
+          left.0,
+          left.1,
+          (
+            opened.table,
+            opens_map left.0 opened.table v.used left.2,
+            λ st stands. kept_said opened.table st lines tells.said tells.left tells.ending w base one goes.more later holds (says st stands),
+          ),
+        )
+
+-- a count that rose, told by another name
+pub rose_as : (a b c d : ℕ) → a ≤ b → d ≡ c → Rose b c → Rose a d
+rose_as a b c d h same rose = subst (Rose a) (sym same) (rose_later a b c h rose)
+
+-- ---- a script
+
+-- what lines of a script do is what the script does
+pub script_carries : (script : List ℕ) (lines : List Numbered) (disk_rose sink_rose : Type 0) (old new : Drafts) (put : List ℕ) (status : ℕ) → IsScript script lines
+    → RunsOn lines disk_rose sink_rose old new put status → Carries script disk_rose sink_rose old new put status
+script_carries script lines disk_rose sink_rose old new put status is (inl lacks) = inl lacks
+script_carries script lines disk_rose sink_rose old new put status is (inr (inl failed)) = inr (inr (inl failed))
+script_carries script lines disk_rose sink_rose old new put status is (inr (inr (inl refuses))) = inr (inr (inr (inl refuses)))
+script_carries script lines disk_rose sink_rose old new put status is (inr (inr (inr carries))) = inr (inr (inr (inr (record { lines = lines; is_script = is; carried = carries }))))
+
+-- a disk that was not touched
+pub untouched : (a : Drafts) → BackLeaves a a (OpeningStops Base 257)
+untouched None = tt
+untouched (Some ds) = λ image is. inl is
+
+ends_run : (from : Option (List ℕ)) (script : List ℕ) (source_rose disk_rose sink_rose : Type 0) (old new : Drafts) (put : List ℕ) (status : ℕ) → IsReadWhole from script
+    → Carries script disk_rose sink_rose old new put status → RunEnds from source_rose disk_rose sink_rose old new script put status
+ends_run from script source_rose disk_rose sink_rose old new put status read (inl lacks) = inr (inl lacks)
+ends_run from script source_rose disk_rose sink_rose old new put status read (inr carried) = inr (inr (record { read = read; told = carried }))
+
+-- a script that was read whole ends the run as it is carried out
+pub run_ends : (from : Option (List ℕ)) (given script : List ℕ) (source_rose disk_rose sink_rose : Type 0) (old new : Drafts) (put : List ℕ) (status : ℕ) → given ≡ script → IsReadWhole from script
+    → Carries given disk_rose sink_rose old new put status → RunEnds from source_rose disk_rose sink_rose old new script put status
+run_ends from given script source_rose disk_rose sink_rose old new put status same read carried =
+    ends_run from script source_rose disk_rose sink_rose old new put status read (subst (λ bytes. Carries bytes disk_rose sink_rose old new put status) same carried)

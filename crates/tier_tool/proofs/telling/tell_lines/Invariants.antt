@@ -1,0 +1,12 @@
+use Rattle.std.proofs.Common.{◌≤◌, drop}
+use Rattle.tier_tool.specs.Main.{Took}
+use Rattle.tier_tool.specs.Telling.{ToldSoFar}
+use Rattle.tier_tool.proofs.telling.tell_lines.Given as goal
+
+abbrev pub invariant-loop-numbered : goal.invariant-loop-numbered
+invariant-loop-numbered g l = record {
+  told : Took (g.K.Sink.held l.fn.out) (g.K.Sink.held l.out) (ToldSoFar l.lines (drop l.numbered-index l.lines) l.acts (g.P.Store.state l.fn.pool) (g.P.Store.state l.pool));
+  few : l.acts ≤ l.numbered-index;
+  sink_later : g.K.Sink.faults l.fn.out ≤ g.K.Sink.faults l.out;
+  disk_later : (g.P.Store.state l.fn.pool).faults ≤ (g.P.Store.state l.pool).faults;
+}

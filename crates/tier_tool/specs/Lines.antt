@@ -1,0 +1,125 @@
+-- What is said of lines, one after another, and how a run of lines ends.
+use Rattle.std.specs.Prelude.{◌≡◌, ◌⊎◌, ◌<◌, ◌^◌, ℕ, ◌+◌, List, [], ◌∷◌, ◌++◌, map}
+use Rattle.std.specs.List.{concat}
+use Rattle.store_face.specs.Tables.{Table}
+use Rattle.store_face.specs.Views.{StoreView, Now, Holds}
+use Rattle.obj_ops.specs.Stores.{Store}
+use Rattle.script_lang.specs.declared.line.Numbered.{Numbered}
+use Rattle.tier_tool.specs.Bases.{StandsFor, IsUnreadable, ActsOn, name_of}
+use Rattle.tier_tool.specs.Plain.{Plain, Answered, answered, after, begun}
+use Rattle.tier_tool.specs.Texts.{line_text, no_space_text, worn_text, bad_record_text, disk_fault_text}
+
+-- What is said of a line: its answer; or that the pool has no room for its act, or is worn out; or that the name's value spells no state.
+pub data Said : Type 0 where
+  Given : Answered → Said
+  NoRoom : (number used need limit : ℕ) → Said
+  WornOut : (number limit : ℕ) → Said
+  BadRecord : (number : ℕ) → (name : List ℕ) → Said
+
+-- the text of what is said
+abbrev pub said_text : Said → List ℕ
+said_text (Given a) = line_text a
+said_text (NoRoom number used need limit) = no_space_text number used need limit
+said_text (WornOut number limit) = worn_text number limit
+said_text (BadRecord number name) = bad_record_text number name
+
+-- the texts of what is said, one behind another
+abbrev pub texts_of : List Said → List ℕ
+texts_of said = concat (map said_text said)
+
+-- What is said of one line, from a map with such unreadable names, over a plain store, which is the one behind the line then: the plain
+-- store's answer, at its place; or a line that would act does not, and changes nothing; or its name is unreadable.
+abbrev pub LineSays : Table → Plain → Numbered → Said → Plain → Type 0
+LineSays t p n (Given a) q = (¬ IsUnreadable t (name_of n.line)) × (a ≡ answered p n) × (q ≡ after p n.line)
+LineSays t p n (NoRoom number used need limit) q =
+    (¬ IsUnreadable t (name_of n.line)) × ActsOn p.store n.line × (number ≡ n.number) × (limit < used + need) × (q ≡ p)
+LineSays t p n (WornOut number limit) q =
+    (¬ IsUnreadable t (name_of n.line)) × ActsOn p.store n.line × (number ≡ n.number) × (limit ≡ 2 ^ 62) × (q ≡ p)
+LineSays t p n (BadRecord number name) q = IsUnreadable t name × (number ≡ n.number) × (name ≡ name_of n.line) × (q ≡ p)
+
+-- What is said of the first lines, one after another; the lines that are left; and the plain store behind those that were said.
+abbrev pub Says : Table → Plain → List Numbered → List Said → List Numbered → Plain → Type 0
+Says t p lines [] left q = (left ≡ lines) × (q ≡ p)
+Says t p [] (s ∷ ss) left q = ⊥
+Says t p (n ∷ ns) (s ∷ ss) left q = (m : Plain) × LineSays t p n s m × Says t m ns ss left q
+
+-- How a run of lines ends: all lines were said; or the sink failed at the last that was; or it stopped in a line that was not said.
+pub data Ending : Type 0 where
+  Whole : Ending
+  Unheard : Ending
+  Stopped : Numbered → Ending
+
+-- the one is the other's beginning
+pub record IsFront (front whole : List ℕ) : Type 0 where
+  pub rest : List ℕ
+  pub joined : front ++ rest ≡ whole
+
+-- all was put, and no line is left: status 0
+pub record EndsWhole (said : List Said) (left : List Numbered) (put : List ℕ) (status : ℕ) : Type 0 where
+  pub ended : status ≡ 0
+  pub none_left : left ≡ []
+  pub all : put ≡ texts_of said
+
+-- the sink failed at the last text, and has a beginning of it: status 8
+pub record EndsUnheard (sink_rose : Type 0) (said : List Said) (put : List ℕ) (status : ℕ) : Type 0 where
+  pub ended : status ≡ 8
+  pub cause : sink_rose
+  pub before : List Said
+  pub last : Said
+  pub split : said ≡ before ++ last ∷ []
+  pub part : List ℕ
+  pub front : IsFront part (said_text last)
+  pub heard : put ≡ texts_of before ++ part
+
+-- The disk failed in a line, which is told: status 6.
+pub record EndsFailed (disk_rose : Type 0) (said : List Said) (n : Numbered) (put : List ℕ) (status : ℕ) : Type 0 where
+  pub ended : status ≡ 6
+  pub cause : disk_rose
+  pub all : put ≡ texts_of said ++ disk_fault_text n.number
+
+-- The disk failed in a line, and the sink in telling it: status 8.
+pub record EndsFailedUnheard (disk_rose sink_rose : Type 0) (said : List Said) (n : Numbered) (put : List ℕ) (status : ℕ) : Type 0 where
+  pub ended : status ≡ 8
+  pub cause : disk_rose
+  pub sink_cause : sink_rose
+  pub part : List ℕ
+  pub front : IsFront part (disk_fault_text n.number)
+  pub heard : put ≡ texts_of said ++ part
+
+-- memory lacked for a line or for its text: status 9
+pub record EndsLacking (said : List Said) (put : List ℕ) (status : ℕ) : Type 0 where
+  pub ended : status ≡ 9
+  pub all : put ≡ texts_of said
+
+-- a line was not said, the first that is left
+pub record EndsStopped (disk_rose sink_rose : Type 0) (said : List Said) (left : List Numbered) (n : Numbered) (put : List ℕ) (status : ℕ) : Type 0 where
+  pub others : List Numbered
+  pub at : left ≡ n ∷ others
+  pub how : EndsFailed disk_rose said n put status ⊎ EndsFailedUnheard disk_rose sink_rose said n put status ⊎ EndsLacking said put status
+
+-- how a run of lines ended, by what was put and the status
+abbrev pub EndsAs : (disk_rose sink_rose : Type 0) → List Said → List Numbered → Ending → List ℕ → ℕ → Type 0
+EndsAs disk_rose sink_rose said left Whole put status = EndsWhole said left put status
+EndsAs disk_rose sink_rose said left Unheard put status = EndsUnheard sink_rose said put status
+EndsAs disk_rose sink_rose said left (Stopped n) put status = EndsStopped disk_rose sink_rose said left n put status
+
+-- A map that is left stands for the store behind the lines that were said; or, where a line was not, for the store with its act too.
+abbrev pub IsLeft : Plain → Ending → Table → Type 0
+IsLeft q Whole u = StandsFor u q.store
+IsLeft q Unheard u = StandsFor u q.store
+IsLeft q (Stopped n) u = StandsFor u q.store ⊎ StandsFor u (after q n.line).store
+
+-- lines were said from a map that stands for a store
+pub record SaysFrom (t : Table) (store : Store) (lines : List Numbered) (said : List Said) (left : List Numbered) (ending : Ending) (new : StoreView) : Type 0 where
+  pub now : Plain
+  pub says : Says t (begun store) lines said left now
+  pub before : Now new (λ s. IsLeft now ending s.before)
+  pub after_ : Now new (λ s. IsLeft now ending s.after)
+
+-- Lines were carried out on a pool's store, and what is said of each was put before the next: what was put, and the status.
+pub record TellsLines (lines : List Numbered) (old new : StoreView) (disk_rose sink_rose : Type 0) (put : List ℕ) (status : ℕ) : Type 0 where
+  pub said : List Said
+  pub left : List Numbered
+  pub ending : Ending
+  pub ends : EndsAs disk_rose sink_rose said left ending put status
+  pub from : Holds old (λ t. (store : Store) → StandsFor t store → SaysFrom t store lines said left ending new)

@@ -1,0 +1,121 @@
+-- How one line is carried out and told, and how the base is opened, carried on and closed.
+use Rattle.std.specs.Prelude.{◌≡◌, ◌⊎◌, ℕ, true, List, [], ◌∷◌, ◌++◌, Option, Result, Ok, Err}
+use Rattle.tier_outside.specs.Disk.{Draft}
+use Rattle.log_store.specs.declared.fault.AttachFault.{AttachFault}
+use Rattle.log_store.specs.declared.fault.AttachFault.TheVariants as fault
+use Rattle.obj_model.specs.declared.memory.NoMemory.{NoMemory}
+use Rattle.obj_ops.specs.Stores.{Store}
+use Rattle.script_lang.specs.declared.line.Numbered.{Numbered}
+use Rattle.store_face.specs.Tables.{Table}
+use Rattle.store_face.specs.Views.{StoreView, Sound, Now, Holds}
+use Rattle.tier_tool.specs.Bases.{GoesOn, InDoubt, SameUnreadable, StandsFor, name_of}
+use Rattle.tier_tool.specs.Lines.{EndsFailed, EndsFailedUnheard, EndsLacking, IsFront, LineSays, Said, Says, said_text, texts_of}
+use Rattle.tier_tool.specs.Main.{BaseFailed, CarriesLines, LacksMemory, MakesAndTells, RefusesImage}
+use Rattle.tier_tool.specs.Plain.{Plain, begun}
+use Rattle.tier_tool.specs.Texts.{bad_image_text, bad_record_text, no_space_text, worn_text, wrong_pair_text}
+use Rattle.tier_tool.specs.declared.base.LineFault.{LineFault}
+use Rattle.tier_tool.specs.declared.base.LineFault.TheVariants as line
+use Rattle.tier_tool.specs.declared.saying.Unsaid.{Unsaid}
+use Rattle.tier_tool.specs.declared.saying.Unsaid.TheVariants as unsaid
+
+-- this is said of a line over a plain store, and the map stands for the plain store behind it, with so many acts
+pub record SaysLine (t : Table) (p : Plain) (n : Numbered) (s : Said) (acts : ℕ) (new : StoreView) : Type 0 where
+  pub behind : Plain
+  pub says : LineSays t p n s behind
+  pub counted : behind.acts ≡ acts
+  pub stands : Holds new (λ u. StandsFor u behind.store)
+
+-- This is said of a line, whichever plain store with so many acts the map stands for. The same names are unreadable behind it.
+pub record IsSaid (n : Numbered) (s : Said) (before acts : ℕ) (old new : StoreView) : Type 0 where
+  pub live : new.live ≡ true
+  pub unreadable : Holds old (λ t. Holds new (SameUnreadable t))
+  pub from : Holds old (λ t. (p : Plain) → p.acts ≡ before → StandsFor t p.store → SaysLine t p n s acts new)
+
+-- nothing is said of a line: a stop leaves what was there before it, or that with its act
+abbrev pub LeavesInDoubt : Numbered → StoreView → StoreView → Type 0
+LeavesInDoubt n old new = Holds old (λ t. Now new (InDoubt n.line t))
+
+-- a text was written, or memory lacked for it
+abbrev pub IsInWords : Result (Unit {0}) NoMemory → Result (Unit {0}) Unsaid → Type 0
+IsInWords (Ok done) (Ok also) = Unit {0}
+IsInWords (Ok done) (Err why) = ⊥
+IsInWords (Err lacking) (Ok done) = ⊥
+IsInWords (Err lacking) (Err unsaid.Disk) = ⊥
+IsInWords (Err lacking) (Err unsaid.NoMemory) = Unit {0}
+
+-- a text was written, so that this holds; or memory lacked for it
+abbrev pub IsWritten : Type 0 → Result (Unit {0}) Unsaid → Type 0
+IsWritten P (Ok done) = P
+IsWritten P (Err unsaid.Disk) = ⊥
+IsWritten P (Err unsaid.NoMemory) = Unit {0}
+
+-- why a line was not carried out was put into words behind a text, or nothing is said of it
+abbrev pub SaysFault : Numbered → LineFault → List ℕ → List ℕ → Result (Unit {0}) Unsaid → Type 0
+SaysFault n (line.NoSpace used need limit) old new result = IsWritten (new ≡ old ++ no_space_text n.number used need limit) result
+SaysFault n (line.Worn limit) old new result = IsWritten (new ≡ old ++ worn_text n.number limit) result
+SaysFault n line.BadRecord old new result = IsWritten (new ≡ old ++ bad_record_text n.number (name_of n.line)) result
+SaysFault n line.Disk old new result = result ≡ Err unsaid.Disk
+SaysFault n line.NoMemory old new result = result ≡ Err unsaid.NoMemory
+
+-- a text is what is said of a line
+pub record Words (n : Numbered) (before acts : ℕ) (old new : StoreView) (text : List ℕ) : Type 0 where
+  pub said : Said
+  pub text_is : text ≡ said_text said
+  pub is : IsSaid n said before acts old new
+
+-- a line was carried out, and put into words; or why nothing is said of it
+abbrev pub SayEnds : Numbered → ℕ → ℕ → StoreView → StoreView → List ℕ → Result (Unit {0}) Unsaid → (disk_rose : Type 0) → Type 0
+SayEnds n before acts old new text (Ok done) disk_rose = Words n before acts old new text
+SayEnds n before acts old new text (Err unsaid.Disk) disk_rose = LeavesInDoubt n old new × disk_rose
+SayEnds n before acts old new text (Err unsaid.NoMemory) disk_rose = LeavesInDoubt n old new
+
+-- the sink failed at what is said of a line: status 8
+pub record IsUnheard (n : Numbered) (before acts : ℕ) (old new : StoreView) (sink_rose : Type 0) (put : List ℕ) (status : ℕ) : Type 0 where
+  pub said : Said
+  pub is : IsSaid n said before acts old new
+  pub ended : status ≡ 8
+  pub cause : sink_rose
+  pub front : IsFront put (said_text said)
+
+-- nothing is said of a line, and the run stops in it
+pub record StopsIn (n : Numbered) (old new : StoreView) (disk_rose sink_rose : Type 0) (put : List ℕ) (status : ℕ) : Type 0 where
+  pub how : EndsFailed disk_rose [] n put status ⊎ EndsFailedUnheard disk_rose sink_rose [] n put status ⊎ EndsLacking [] put status
+  pub leaves : LeavesInDoubt n old new
+
+-- a line was carried out and told; or the run ends at it
+abbrev pub TellsLine : Numbered → ℕ → ℕ → StoreView → StoreView → (disk_rose sink_rose : Type 0) → List ℕ → Result (Unit {0}) ℕ → Type 0
+TellsLine n before acts old new disk_rose sink_rose put (Ok done) = Words n before acts old new put
+TellsLine n before acts old new disk_rose sink_rose put (Err status) =
+    IsUnheard n before acts old new sink_rose put status ⊎ StopsIn n old new disk_rose sink_rose put status
+
+-- what was said so far, from a map that stands for a store, over the lines that are no longer left
+pub record SaysSoFar (t : Table) (store : Store) (lines left : List Numbered) (said : List Said) (acts : ℕ) (now : StoreView) : Type 0 where
+  pub behind : Plain
+  pub says : Says t (begun store) lines said left behind
+  pub counted : behind.acts ≡ acts
+  pub stands : Holds now (λ u. StandsFor u behind.store)
+
+-- the lines but those that are left were carried out and told
+pub record ToldSoFar (lines left : List Numbered) (acts : ℕ) (old now : StoreView) (put : List ℕ) : Type 0 where
+  pub said : List Said
+  pub put_is : put ≡ texts_of said
+  pub live : now.live ≡ true
+  pub sound : Sound now
+  pub goes_on : GoesOn old now
+  pub unreadable : Holds old (λ t. Holds now (SameUnreadable t))
+  pub from : Holds old (λ t. (store : Store) → StandsFor t store → SaysSoFar t store lines left said acts now)
+
+-- why the base was not opened is told
+abbrev pub TellsUnopened : AttachFault → Type 0 → List ℕ → ℕ → Type 0
+TellsUnopened fault.Disk sink_rose put status = (status ≡ 6) × (put ≡ [])
+TellsUnopened (fault.BadImage at) sink_rose put status = MakesAndTells (bad_image_text at ∷ []) 5 sink_rose put status
+TellsUnopened (fault.WrongPair found want) sink_rose put status = MakesAndTells (wrong_pair_text found want ∷ []) 5 sink_rose put status
+TellsUnopened fault.NoMemory sink_rose put status = (status ≡ 9) × (put ≡ [])
+
+-- the base was opened, and the lines were carried out; or why it was not
+abbrev pub RunsOn : List Numbered → (disk_rose sink_rose : Type 0) → (base_old base_new : Option (List Draft)) → List ℕ → ℕ → Type 0
+RunsOn lines disk_rose sink_rose base_old base_new put status =
+    LacksMemory base_old base_new put status
+    ⊎ BaseFailed disk_rose base_old base_new put status
+    ⊎ RefusesImage sink_rose base_old base_new put status
+    ⊎ CarriesLines lines disk_rose sink_rose base_old base_new put status
