@@ -5,6 +5,8 @@
 #[cfg(test)]
 mod large;
 #[cfg(test)]
+mod silent;
+#[cfg(test)]
 mod stops;
 #[cfg(test)]
 mod tests;

@@ -2,9 +2,11 @@ pub mod Bases
 pub mod Going
 pub mod Lawful
 pub mod Lengths
+pub mod Next
 pub mod Ordered
 pub mod Outcomes
 pub mod Pools
+pub mod Rooms
 pub mod Runs
 pub mod Said
 pub mod Told

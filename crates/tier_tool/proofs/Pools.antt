@@ -5,6 +5,8 @@ use Rattle.obj_model.specs.declared.change.Change.{Change}
 use Rattle.obj_model.specs.declared.change.Change.TheVariants.{Put}
 use Rattle.obj_model.specs.declared.state.NameState.{NameState}
 use Rattle.rec_codec.specs.Spelling.{SpellsState}
+use Rattle.log_store.specs.Commits.{Uses, need}
+use Rattle.log_store.specs.Views.{LogView, store_of}
 use Rattle.store_face.specs.Tables.{Table, changed_by}
 use Rattle.store_face.specs.Views.{StoreView, Sides, one_map, last, Now, Holds, Sound, grown, EachMoment, Grows}
 use Rattle.store_face.specs.Calls.{Stays, Fails, IsOneOf, Committed}
@@ -13,6 +15,7 @@ use Rattle.store_face.specs.declared.fault.StoreFault.TheVariants as store
 use Rattle.tier_outside.specs.Causes.{Rose}
 pub use Rattle.tier_tool.proofs.Views.{At, now_weaker, now_same}
 use Rattle.tier_tool.specs.Bases.{state_key}
+use Rattle.tier_tool.specs.Rooms.{change_of, PutUses}
 use Rattle.tier_tool.specs.Pools.{line_fault, IsWith, IsTorn, WasPut}
 
 -- ---- moments
@@ -89,16 +92,27 @@ put_done name key value bytes s old new e f h done =
       d.3,
     )
 
-failed : (name bytes : List ℕ) (s : NameState) (old new : StoreView) (fault : StoreFault) → SpellsState bytes s → Sound old → old.live ≡ true
-    → Committed (puts (state_key name) bytes) old new (Err fault) → WasPut name s old new (Err (line_fault fault))
-failed name bytes s old new store.Disk h sound live done = (torn name bytes s old new h sound live done.0, done.1)
-failed name bytes s old new (store.BadImage at) h sound live done = absurd done
-failed name bytes s old new (store.NoSpace used need limit) h sound live done = (done.1, done.0)
-failed name bytes s old new (store.Worn limit) h sound live done = (done.1, done.0)
-failed name bytes s old new store.NoMemory h sound live done = done
+failed : (name bytes : List ℕ) (s : NameState) (changes : List Change) (old new : LogView) (fault : StoreFault) → SpellsState bytes s → Sound (store_of old) → old.live ≡ true
+    → Uses changes old new (Err fault) → Committed (puts (state_key name) bytes) (store_of old) (store_of new) (Err fault) → WasPut name s (store_of old) (store_of new) (Err (line_fault fault))
+failed name bytes s changes old new store.Disk h sound live uses done = (torn name bytes s (store_of old) (store_of new) h sound live done.0, done.1)
+failed name bytes s changes old new (store.BadImage at) h sound live uses done = absurd done
+failed name bytes s changes old new (store.NoSpace used need limit) h sound live uses done = (done.1, done.0)
+failed name bytes s changes old new (store.Worn limit) h sound live uses done = absurd uses
+failed name bytes s changes old new store.NoMemory h sound live uses done = done
 
 -- a put that failed
-pub put_failed : (name key value bytes : List ℕ) (s : NameState) (old new : StoreView) (fault : StoreFault) → key ≡ state_key name → value ≡ bytes → SpellsState bytes s → Sound old → old.live ≡ true
-    → Committed (puts key value) old new (Err fault) → WasPut name s old new (Err (line_fault fault))
-put_failed name key value bytes s old new fault e f h sound live done =
-    failed name bytes s old new fault h sound live (subst (λ (cs : List Change). Committed cs old new (Err fault)) (ap₂ puts e f) done)
+pub put_failed : (name key value bytes : List ℕ) (s : NameState) (old new : LogView) (fault : StoreFault) → key ≡ state_key name → value ≡ bytes → SpellsState bytes s → Sound (store_of old)
+    → old.live ≡ true → Uses (puts key value) old new (Err fault) → Committed (puts key value) (store_of old) (store_of new) (Err fault) → WasPut name s (store_of old) (store_of new) (Err (line_fault fault))
+put_failed name key value bytes s old new fault e f h sound live uses done =
+    failed name bytes s (puts key value) old new fault h sound live uses (subst (λ (cs : List Change). Committed cs (store_of old) (store_of new) (Err fault)) (ap₂ puts e f) done)
+
+-- what a put that failed took of the room
+pub failed_uses : (name key value bytes : List ℕ) (s : NameState) (old new : LogView) (fault : StoreFault) → key ≡ state_key name → value ≡ bytes → SpellsState bytes s
+    → Uses (puts key value) old new (Err fault) → Committed (puts key value) (store_of old) (store_of new) (Err fault) → PutUses name s old new (Err (line_fault fault))
+failed_uses name key value bytes s old new store.Disk e f h uses done = tt
+failed_uses name key value bytes s old new (store.BadImage at) e f h uses done = absurd uses
+failed_uses name key value bytes s old new (store.NoSpace used more limit) e f h uses done =
+    let same : need (puts key value) ≡ need (change_of name s) = ap need (ap₂ puts e (f ∙ h.spelled)) in
+    (uses.1, uses.3, omega (arith, uses.0, uses.2), uses.4, uses.2 ∙ same)
+failed_uses name key value bytes s old new (store.Worn limit) e f h uses done = absurd uses
+failed_uses name key value bytes s old new store.NoMemory e f h uses done = uses

@@ -16,6 +16,10 @@ pub now_weaker : (m : Option (List Sides)) (P Q : Sides → Type 0) → ((s : Si
 now_weaker None P Q weaker h = tt
 now_weaker (Some ss) P Q weaker h = weaker (last ss) h
 
+pub now_two : (m : Option (List Sides)) (P Q R : Sides → Type 0) → ((s : Sides) → P s → Q s → R s) → At m P → At m Q → At m R
+now_two None P Q R both h k = tt
+now_two (Some ss) P Q R both h k = both (last ss) h k
+
 pub now_same : (m n : Option (List Sides)) (P : Sides → Type 0) → m ≡ n → At m P → At n P
 now_same m n P e h = subst (λ w. At w P) e h
 

@@ -1,5 +1,5 @@
 -- What the map of a base pool says of objects, and what a line does to it.
-use Rattle.std.specs.Prelude.{◌≡◌, ◌↔◌, ◌⊎◌, ◌<◌, ◌≤◌, ◌^◌, ℕ, ◌+◌, Bool, true, false, List, ◌∷◌, Option, Some, None, Result, Ok, Err, if◌then◌else◌}
+use Rattle.std.specs.Prelude.{◌≡◌, ◌↔◌, ◌⊎◌, ◌<◌, ◌≤◌, ℕ, ◌+◌, Bool, true, false, List, ◌∷◌, Option, Some, None, Result, Ok, Err, if◌then◌else◌}
 use Rattle.std.specs.FinMap as fin
 use Rattle.store_face.specs.Tables.{Table}
 use Rattle.store_face.specs.Views.{StoreView, Sides, Now, Holds, grown}
@@ -89,8 +89,6 @@ LineEnds line old new (Ok done) =
     Holds old (λ t. IsAnswered line t new done.0 done.1) × (new.live ≡ true) × (old.faults ≤ new.faults) × WritesOnlyIf done.1 old new
 LineEnds line old new (Err (fault.NoSpace used need limit)) =
     Holds old (λ t. (¬ IsUnreadable t (name_of line)) × ((store : Store) → StandsFor t store → ActsOn store line)) × (limit < used + need) × Stays old new
-LineEnds line old new (Err (fault.Worn limit)) =
-    Holds old (λ t. (¬ IsUnreadable t (name_of line)) × ((store : Store) → StandsFor t store → ActsOn store line)) × (limit ≡ 2 ^ 62) × Stays old new
 LineEnds line old new (Err fault.BadRecord) = Holds old (λ t. IsUnreadable t (name_of line)) × Stays old new
 LineEnds line old new (Err fault.Disk) = Holds old (λ t. Now new (InDoubt line t)) × Fails old new
 LineEnds line old new (Err fault.NoMemory) = Stays old new

@@ -1,10 +1,15 @@
 -- What follows from the definition of the answers, in plain words.
-use Rattle.std.specs.Prelude.{◌≡◌, List, [], ◌∷◌, ◌++◌}
+use Rattle.std.specs.Prelude.{◌≡◌, ℕ, List, [], ◌∷◌, ◌++◌}
+use Rattle.obj_model.specs.declared.change.Pool.TheVariants.{Base}
 use Rattle.obj_model.specs.declared.req.Req.{Req}
 use Rattle.obj_ops.specs.Stores.{Store, replay}
+use Rattle.store_face.specs.Tables.{Table}
+use Rattle.log_image.specs.Images.{HoldsMap, Log}
+use Rattle.log_store.specs.Opens.{OpensAs}
 use Rattle.script_lang.specs.declared.line.Line.{Line}
 use Rattle.script_lang.specs.declared.line.Line.TheVariants.{Op, Get}
 use Rattle.script_lang.specs.declared.line.Numbered.{Numbered}
+use Rattle.tier_tool.specs.Bases.{StandsFor}
 use Rattle.tier_tool.specs.Plain.{Plain, after, answers, begun, plain}
 
 -- a request before others, where the line is one
@@ -30,3 +35,8 @@ LaterLinesChangeNothing before others =
 -- lines leave the store that their write requests leave, one after another
 abbrev pub RequestsMakeTheStore : List Numbered → Type 0
 RequestsMakeTheStore lines = (store : Store) → (behind lines (begun store)).store ≡ replay store (requests lines)
+
+-- A run that opens a disk which holds a map goes on from the plain store that the map stands for.
+abbrev pub TheNextRunGoesOn : Type 0
+TheNextRunGoesOn =
+    (image : List ℕ) (u : Table) (log : Log) (store : Store) → HoldsMap Base 257 image u → StandsFor u store → OpensAs Base 257 log image → StandsFor log.table store

@@ -5,5 +5,6 @@ pub mod Lines
 pub mod Main
 pub mod Plain
 pub mod Pools
+pub mod Rooms
 pub mod Telling
 pub mod Texts

@@ -1,25 +1,23 @@
 -- What a run does, from the words of its command line and the bytes of its script to the bytes put, the status, and the base pool's disk.
 use Rattle.std.specs.Prelude.{◌≡◌, ◌≢◌, ◌<◌, ◌≤◌, ◌^◌, ◌⊎◌, ℕ, List, [], ◌∷◌, length, take, Option, None, IfSome, codes}
 use Rattle.std.specs.List.{concat}
-use Rattle.std.specs.FinMap as fin
 use Rattle.obj_model.specs.declared.change.Pool.TheVariants.{Base}
 use Rattle.obj_ops.specs.Stores.{Store}
 use Rattle.script_lang.specs.Scripts.{IsScript, IsFault}
 use Rattle.script_lang.specs.declared.line.Numbered.{Numbered}
 use Rattle.script_lang.specs.declared.read.Cause.{Cause}
-use Rattle.tier_outside.specs.Disk.{Draft, EachImage}
+use Rattle.tier_outside.specs.Disk.{Draft, EachImage, IsImage}
 use Rattle.tier_outside.specs.Moments.{Now}
 use Rattle.tier_outside.specs.Streams.{Loses, Gains}
 use Rattle.store_face.specs.Tables.{Table}
 use Rattle.log_image.specs.Fronts.{IsBad, IsOf}
-use Rattle.log_image.specs.Images.{HoldsMap, IsBlank}
-use Rattle.log_store.specs.Opens.{Left, OpeningStops}
+use Rattle.log_image.specs.Images.{HoldsMap, Log}
+use Rattle.log_store.specs.Opens.{Left, OpeningStops, OpensAs}
 use Rattle.tier_tool.specs.declared.pair.DiskPair.{DiskPair}
 use Rattle.tier_tool.specs.declared.reading.Unread.{Unread}
 use Rattle.tier_tool.specs.declared.reading.Unread.TheVariants.{Fault, NoMemory}
 use Rattle.tier_tool.specs.Bases.{StandsFor}
-use Rattle.tier_tool.specs.Lines.{EndsAs, Ending, IsFront, IsLeft, Said, Says}
-use Rattle.tier_tool.specs.Plain.{Plain, begun}
+use Rattle.tier_tool.specs.Lines.{EndsAs, Ending, IsFront, IsLeft, Said, Says, Standing, standing}
 use Rattle.tier_tool.specs.Texts.{bad_image_text, fault_text, usage_text, wrong_pair_text}
 
 -- the words ask for a run: there is one, and it is `run`
@@ -71,6 +69,11 @@ abbrev pub base_faults : {D : Type 0} → (D → ℕ) → List (DiskPair D) → 
 base_faults faults [] = 0
 base_faults faults (pair ∷ pairs) = faults pair.base
 
+-- the room for the log of the one pair's base, in bytes
+abbrev pub base_room : {D : Type 0} → List (DiskPair D) → ℕ
+base_room [] = 0
+base_room (pair ∷ pairs) = pair.base_room
+
 -- a room that a log may have
 abbrev pub IsRoom : ℕ → Type 0
 IsRoom room = (64 ≤ room) × (room ≤ 2 ^ 40)
@@ -89,10 +92,6 @@ IsHandedBack old new = ⊥
 -- whatever a stop leaves of the disk that is handed back stands so to its moment before the run
 abbrev pub BackLeaves : Option (List Draft) → Option (List Draft) → (Draft → List ℕ → Type 0) → Type 0
 BackLeaves old new Q = Now old (λ d. Now new (λ e. EachImage e (λ image. Q d image)))
-
--- An image is opened with this map: it is blank, and the map is empty, or it holds the map. The base of the first pair has the number 257.
-abbrev pub OpensMap : List ℕ → Table → Type 0
-OpensMap image t = (IsBlank Base 257 image × (t ≡ fin.empty)) ⊎ HoldsMap Base 257 image t
 
 -- ---- how a run ends
 
@@ -131,63 +130,66 @@ pub record BaseFailed (disk_rose : Type 0) (base_old base_new : Option (List Dra
   pub silent : put ≡ []
   pub base_kept : BackLeaves base_old base_new (OpeningStops Base 257)
 
--- what a stop left of the base's disk is refused, which is told with status 5: it is no log of a base at some offset, or of another pair
+-- what a stop left of the base's disk is refused, which is told with status 5: it is no log of a base at some offset, or of another
+-- pair. The disk stays as it was.
 pub record RefusesImage (sink_rose : Type 0) (base_old base_new : Option (List Draft)) (put : List ℕ) (status : ℕ) : Type 0 where
   pub why : List ℕ
   pub cause : ((at : ℕ) × (why ≡ bad_image_text at) × Left base_old (λ image. IsBad Base 257 image at))
       ⊎ ((other : ℕ) × (why ≡ wrong_pair_text other 257) × (other ≢ 257) × Left base_old (IsOf Base other))
-  pub base_kept : BackLeaves base_old base_new (OpeningStops Base 257)
+  pub base_kept : BackLeaves base_old base_new IsImage
   pub told : MakesAndTells (why ∷ []) 5 sink_rose put status
 
--- Lines were said from a map that stands for a store: each is answered as the plain store answers it. Whatever a stop leaves of the disk
--- that is handed back holds a map that stands for the plain store behind the lines that were said; or, where a line was begun that was
--- not said, for that store with its act too. So an act that was told survives any stop.
-pub record SaidFrom (t : Table) (store : Store) (lines : List Numbered) (said : List Said) (left : List Numbered) (ending : Ending) (base_new : Option (List Draft)) : Type 0 where
-  pub now : Plain
-  pub says : Says t (begun store) lines said left now
+-- Lines were said in so much room from a map that stands for a store, with so much of the room used: each is answered as the plain store
+-- answers it, or refused where its record does not fit. Whatever a stop leaves of the disk that is handed back holds a map that stands for
+-- the plain store behind the lines that were said; or, where a line was begun that was not said, for that store with its act too. So an
+-- act that was told survives any stop.
+pub record SaidFrom (t : Table) (room : ℕ) (from : Standing) (lines : List Numbered) (said : List Said) (left : List Numbered) (ending : Ending) (base_new : Option (List Draft)) : Type 0 where
+  pub now : Standing
+  pub says : Says t room from lines said left now
   pub kept : Now base_new (λ e. EachImage e (λ image. (u : Table) × HoldsMap Base 257 image u × IsLeft now ending u))
 
--- Lines are carried out on the base from the map that an image of its disk was opened with.
-pub record CarriesLines (lines : List Numbered) (disk_rose sink_rose : Type 0) (base_old base_new : Option (List Draft)) (put : List ℕ) (status : ℕ) : Type 0 where
+-- Lines are carried out on the base from the log that an image of its disk was opened as. The base of the first pair has the number 257.
+pub record CarriesLines (lines : List Numbered) (room : ℕ) (disk_rose sink_rose : Type 0) (base_old base_new : Option (List Draft)) (put : List ℕ) (status : ℕ) : Type 0 where
   pub said : List Said
   pub left : List Numbered
   pub ending : Ending
   pub ends : EndsAs disk_rose sink_rose said left ending put status
-  pub from : Left base_old (λ image. (t : Table) × OpensMap image t × ((store : Store) → StandsFor t store → SaidFrom t store lines said left ending base_new))
+  pub from : Left base_old (λ image. (log : Log) × OpensAs Base 257 log image
+      × ((store : Store) → StandsFor log.table store → SaidFrom log.table room (standing store log.used) lines said left ending base_new))
 
 -- the script is accepted, and its lines are carried out
-pub record AnswersLines (script : List ℕ) (disk_rose sink_rose : Type 0) (base_old base_new : Option (List Draft)) (put : List ℕ) (status : ℕ) : Type 0 where
+pub record AnswersLines (script : List ℕ) (room : ℕ) (disk_rose sink_rose : Type 0) (base_old base_new : Option (List Draft)) (put : List ℕ) (status : ℕ) : Type 0 where
   pub lines : List Numbered
   pub is_script : IsScript script lines
-  pub carried : CarriesLines lines disk_rose sink_rose base_old base_new put status
+  pub carried : CarriesLines lines room disk_rose sink_rose base_old base_new put status
 
 -- the source was read to its end, or past the most bytes that a script may have, and what it gave was carried out
-pub record CarriesOut (left : Option (List ℕ)) (disk_rose sink_rose : Type 0) (base_old base_new : Option (List Draft)) (script put : List ℕ) (status : ℕ) : Type 0 where
+pub record CarriesOut (left : Option (List ℕ)) (room : ℕ) (disk_rose sink_rose : Type 0) (base_old base_new : Option (List Draft)) (script put : List ℕ) (status : ℕ) : Type 0 where
   pub read : IsReadWhole left script
   pub told : TellsFault script sink_rose base_old base_new put status
       ⊎ BaseFailed disk_rose base_old base_new put status
       ⊎ RefusesImage sink_rose base_old base_new put status
-      ⊎ AnswersLines script disk_rose sink_rose base_old base_new put status
+      ⊎ AnswersLines script room disk_rose sink_rose base_old base_new put status
 
 -- how a run ends that the words ask for
-abbrev pub RunEnds : Option (List ℕ) → (source_rose disk_rose sink_rose : Type 0) → (base_old base_new : Option (List Draft)) → List ℕ → List ℕ → ℕ → Type 0
-RunEnds left source_rose disk_rose sink_rose base_old base_new script put status =
+abbrev pub RunEnds : Option (List ℕ) → (room : ℕ) → (source_rose disk_rose sink_rose : Type 0) → (base_old base_new : Option (List Draft)) → List ℕ → List ℕ → ℕ → Type 0
+RunEnds left room source_rose disk_rose sink_rose base_old base_new script put status =
     SourceFailed source_rose base_old base_new put status
     ⊎ LacksMemory base_old base_new put status
-    ⊎ CarriesOut left disk_rose sink_rose base_old base_new script put status
+    ⊎ CarriesOut left room disk_rose sink_rose base_old base_new script put status
 
 -- the words ask for a run
-pub record IsRun (words : List (List ℕ)) (left : Option (List ℕ)) (source_rose disk_rose sink_rose : Type 0) (base_old base_new : Option (List Draft)) (script put : List ℕ) (status : ℕ) : Type 0 where
+pub record IsRun (words : List (List ℕ)) (left : Option (List ℕ)) (room : ℕ) (source_rose disk_rose sink_rose : Type 0) (base_old base_new : Option (List Draft)) (script put : List ℕ) (status : ℕ) : Type 0 where
   pub words_taken : AskRun words
-  pub ends : RunEnds left source_rose disk_rose sink_rose base_old base_new script put status
+  pub ends : RunEnds left room source_rose disk_rose sink_rose base_old base_new script put status
 
 -- a whole run: the bytes that the source gave, the bytes that the sink took, and how it ended
-pub record Ran (words : List (List ℕ)) (left_old left_new held_old held_new : Option (List ℕ)) (source_rose disk_rose sink_rose : Type 0) (base_old base_new : Option (List Draft)) (status : ℕ) : Type 0 where
+pub record Ran (words : List (List ℕ)) (left_old left_new held_old held_new : Option (List ℕ)) (room : ℕ) (source_rose disk_rose sink_rose : Type 0) (base_old base_new : Option (List Draft)) (status : ℕ) : Type 0 where
   pub script : List ℕ
   pub given : Loses left_old left_new script
   pub put : List ℕ
   pub taken : Gains held_old held_new put
-  pub ends : IsMisused words sink_rose base_old base_new script put status ⊎ IsRun words left_new source_rose disk_rose sink_rose base_old base_new script put status
+  pub ends : IsMisused words sink_rose base_old base_new script put status ⊎ IsRun words left_new room source_rose disk_rose sink_rose base_old base_new script put status
 
 -- the source gave some bytes
 abbrev pub GaveSome : Option (List ℕ) → Option (List ℕ) → Type 0
@@ -203,10 +205,10 @@ abbrev pub Took : Option (List ℕ) → Option (List ℕ) → (List ℕ → Type
 Took held_old held_new P = (put : List ℕ) × Gains held_old held_new put × P put
 
 -- a script was carried out, or memory lacked before it was known what is to be put
-abbrev pub Carries : List ℕ → (disk_rose sink_rose : Type 0) → (base_old base_new : Option (List Draft)) → List ℕ → ℕ → Type 0
-Carries script disk_rose sink_rose base_old base_new put status =
+abbrev pub Carries : List ℕ → (room : ℕ) → (disk_rose sink_rose : Type 0) → (base_old base_new : Option (List Draft)) → List ℕ → ℕ → Type 0
+Carries script room disk_rose sink_rose base_old base_new put status =
     LacksMemory base_old base_new put status
     ⊎ TellsFault script sink_rose base_old base_new put status
     ⊎ BaseFailed disk_rose base_old base_new put status
     ⊎ RefusesImage sink_rose base_old base_new put status
-    ⊎ AnswersLines script disk_rose sink_rose base_old base_new put status
+    ⊎ AnswersLines script room disk_rose sink_rose base_old base_new put status

@@ -1,5 +1,5 @@
 -- What a base pool has for one name, and how the calls on it end.
-use Rattle.std.specs.Prelude.{◌≡◌, ◌≤◌, ◌<◌, ◌^◌, ◌+◌, ◌⊎◌, ℕ, true, List, Option, Some, None, Result, Ok, Err}
+use Rattle.std.specs.Prelude.{◌≡◌, ◌≤◌, ◌<◌, ◌+◌, ◌⊎◌, ℕ, true, List, Option, Some, None, Result, Ok, Err}
 use Rattle.std.specs.FinMap as fin
 use Rattle.obj_model.specs.States.{IsState, unknown}
 use Rattle.obj_model.specs.declared.state.NameState.{NameState}
@@ -11,21 +11,20 @@ use Rattle.store_face.specs.declared.fault.StoreFault.{StoreFault}
 use Rattle.store_face.specs.declared.fault.StoreFault.TheVariants as store
 use Rattle.tier_tool.specs.Bases.{state_key, IsUnreadable}
 use Rattle.tier_tool.specs.declared.base.LineFault.{LineFault}
-use Rattle.tier_tool.specs.declared.base.LineFault.TheVariants.{NoSpace, Worn, BadRecord, Disk, NoMemory}
+use Rattle.tier_tool.specs.declared.base.LineFault.TheVariants.{NoSpace, BadRecord, Disk, NoMemory}
 
--- what a failed call of the store means for a line; that the image is bad is never answered by a live store
+-- what a failed call of the store means for a line; that the image is bad is never answered by a live store, and that it is worn never by a log
 abbrev pub line_fault : StoreFault → LineFault
 line_fault store.Disk = Disk
 line_fault (store.BadImage at) = BadRecord
 line_fault (store.NoSpace used need limit) = NoSpace used need limit
-line_fault (store.Worn limit) = Worn limit
+line_fault (store.Worn limit) = BadRecord
 line_fault store.NoMemory = NoMemory
 
 -- the state that bytes spell, if they spell one
 abbrev pub IsKnown : List ℕ → Result NameState LineFault → Type 0
 IsKnown bytes (Ok s) = SpellsState bytes s
 IsKnown bytes (Err (NoSpace used need limit)) = ⊥
-IsKnown bytes (Err (Worn limit)) = ⊥
 IsKnown bytes (Err BadRecord) = (s : NameState) → ¬ SpellsState bytes s
 IsKnown bytes (Err Disk) = ⊥
 IsKnown bytes (Err NoMemory) = Unit {0}
@@ -43,7 +42,6 @@ Has name s t = IsStateOf (fin.get t (state_key name)) s
 abbrev pub Found : List ℕ → StoreView → StoreView → Result NameState LineFault → Type 0
 Found name old new (Ok s) = IsState s × Holds old (Has name s) × Stays old new
 Found name old new (Err (NoSpace used need limit)) = ⊥
-Found name old new (Err (Worn limit)) = ⊥
 Found name old new (Err BadRecord) = Holds old (λ t. IsUnreadable t name) × Stays old new
 Found name old new (Err Disk) = Fails old new × (new.moments ≡ old.moments)
 Found name old new (Err NoMemory) = Stays old new
@@ -63,7 +61,6 @@ pub record IsTorn (name : List ℕ) (s : NameState) (t : Table) (sides : Sides) 
 abbrev pub WasPut : List ℕ → NameState → StoreView → StoreView → Result (Unit {0}) LineFault → Type 0
 WasPut name s old new (Ok done) = Holds old (λ t. Holds new (IsWith name s t)) × (new.live ≡ true) × (old.faults ≤ new.faults)
 WasPut name s old new (Err (NoSpace used need limit)) = (limit < used + need) × Stays old new
-WasPut name s old new (Err (Worn limit)) = (limit ≡ 2 ^ 62) × Stays old new
 WasPut name s old new (Err BadRecord) = ⊥
 WasPut name s old new (Err Disk) = Holds old (λ t. Now new (IsTorn name s t)) × Fails old new
 WasPut name s old new (Err NoMemory) = Stays old new

@@ -1,6 +1,8 @@
 -- How one line is carried out and told, and how the base is opened, carried on and closed.
 use Rattle.std.specs.Prelude.{◌≡◌, ◌⊎◌, ℕ, true, List, [], ◌∷◌, ◌++◌, Option, Result, Ok, Err}
 use Rattle.tier_outside.specs.Disk.{Draft}
+use Rattle.log_store.specs.Commits.{SameStore}
+use Rattle.log_store.specs.Views.{LogView, store_of}
 use Rattle.log_store.specs.declared.fault.AttachFault.{AttachFault}
 use Rattle.log_store.specs.declared.fault.AttachFault.TheVariants as fault
 use Rattle.obj_model.specs.declared.memory.NoMemory.{NoMemory}
@@ -9,27 +11,29 @@ use Rattle.script_lang.specs.declared.line.Numbered.{Numbered}
 use Rattle.store_face.specs.Tables.{Table}
 use Rattle.store_face.specs.Views.{StoreView, Sound, Now, Holds}
 use Rattle.tier_tool.specs.Bases.{GoesOn, InDoubt, SameUnreadable, StandsFor, name_of}
-use Rattle.tier_tool.specs.Lines.{EndsFailed, EndsFailedUnheard, EndsLacking, IsFront, LineSays, Said, Says, said_text, texts_of}
+use Rattle.tier_tool.specs.Lines.{EndsFailed, EndsFailedUnheard, EndsLacking, IsFront, LineSays, Said, Says, Standing, said_text, standing, texts_of}
 use Rattle.tier_tool.specs.Main.{BaseFailed, CarriesLines, LacksMemory, MakesAndTells, RefusesImage}
-use Rattle.tier_tool.specs.Plain.{Plain, begun}
-use Rattle.tier_tool.specs.Texts.{bad_image_text, bad_record_text, no_space_text, worn_text, wrong_pair_text}
+use Rattle.tier_tool.specs.Texts.{bad_image_text, bad_record_text, no_space_text, wrong_pair_text}
 use Rattle.tier_tool.specs.declared.base.LineFault.{LineFault}
 use Rattle.tier_tool.specs.declared.base.LineFault.TheVariants as line
 use Rattle.tier_tool.specs.declared.saying.Unsaid.{Unsaid}
 use Rattle.tier_tool.specs.declared.saying.Unsaid.TheVariants as unsaid
 
--- this is said of a line over a plain store, and the map stands for the plain store behind it, with so many acts
-pub record SaysLine (t : Table) (p : Plain) (n : Numbered) (s : Said) (acts : ℕ) (new : StoreView) : Type 0 where
-  pub behind : Plain
-  pub says : LineSays t p n s behind
-  pub counted : behind.acts ≡ acts
-  pub stands : Holds new (λ u. StandsFor u behind.store)
+-- This is said of a line over what stands before it, and the map stands for the plain store behind it, with so many acts; what is used
+-- of the room is what the store counts.
+pub record SaysLine (t : Table) (room : ℕ) (p : Standing) (n : Numbered) (s : Said) (acts : ℕ) (new : LogView) : Type 0 where
+  pub behind : Standing
+  pub says : LineSays t room p n s behind
+  pub counted : behind.plain.acts ≡ acts
+  pub taken : behind.used ≡ new.used
+  pub stands : Holds (store_of new) (λ u. StandsFor u behind.plain.store)
 
--- This is said of a line, whichever plain store with so many acts the map stands for. The same names are unreadable behind it.
-pub record IsSaid (n : Numbered) (s : Said) (before acts : ℕ) (old new : StoreView) : Type 0 where
+-- This is said of a line, whichever plain store with so many acts the map stands for, in the store's room. The same names are unreadable
+-- behind it.
+pub record IsSaid (n : Numbered) (s : Said) (before acts : ℕ) (old new : LogView) : Type 0 where
   pub live : new.live ≡ true
-  pub unreadable : Holds old (λ t. Holds new (SameUnreadable t))
-  pub from : Holds old (λ t. (p : Plain) → p.acts ≡ before → StandsFor t p.store → SaysLine t p n s acts new)
+  pub unreadable : Holds (store_of old) (λ t. Holds (store_of new) (SameUnreadable t))
+  pub from : Holds (store_of old) (λ t. (p : Standing) → p.plain.acts ≡ before → p.used ≡ old.used → StandsFor t p.plain.store → SaysLine t old.room p n s acts new)
 
 -- nothing is said of a line: a stop leaves what was there before it, or that with its act
 abbrev pub LeavesInDoubt : Numbered → StoreView → StoreView → Type 0
@@ -52,25 +56,24 @@ IsWritten P (Err unsaid.NoMemory) = Unit {0}
 -- why a line was not carried out was put into words behind a text, or nothing is said of it
 abbrev pub SaysFault : Numbered → LineFault → List ℕ → List ℕ → Result (Unit {0}) Unsaid → Type 0
 SaysFault n (line.NoSpace used need limit) old new result = IsWritten (new ≡ old ++ no_space_text n.number used need limit) result
-SaysFault n (line.Worn limit) old new result = IsWritten (new ≡ old ++ worn_text n.number limit) result
 SaysFault n line.BadRecord old new result = IsWritten (new ≡ old ++ bad_record_text n.number (name_of n.line)) result
 SaysFault n line.Disk old new result = result ≡ Err unsaid.Disk
 SaysFault n line.NoMemory old new result = result ≡ Err unsaid.NoMemory
 
 -- a text is what is said of a line
-pub record Words (n : Numbered) (before acts : ℕ) (old new : StoreView) (text : List ℕ) : Type 0 where
+pub record Words (n : Numbered) (before acts : ℕ) (old new : LogView) (text : List ℕ) : Type 0 where
   pub said : Said
   pub text_is : text ≡ said_text said
   pub is : IsSaid n said before acts old new
 
 -- a line was carried out, and put into words; or why nothing is said of it
-abbrev pub SayEnds : Numbered → ℕ → ℕ → StoreView → StoreView → List ℕ → Result (Unit {0}) Unsaid → (disk_rose : Type 0) → Type 0
+abbrev pub SayEnds : Numbered → ℕ → ℕ → LogView → LogView → List ℕ → Result (Unit {0}) Unsaid → (disk_rose : Type 0) → Type 0
 SayEnds n before acts old new text (Ok done) disk_rose = Words n before acts old new text
-SayEnds n before acts old new text (Err unsaid.Disk) disk_rose = LeavesInDoubt n old new × disk_rose
-SayEnds n before acts old new text (Err unsaid.NoMemory) disk_rose = LeavesInDoubt n old new
+SayEnds n before acts old new text (Err unsaid.Disk) disk_rose = LeavesInDoubt n (store_of old) (store_of new) × disk_rose
+SayEnds n before acts old new text (Err unsaid.NoMemory) disk_rose = LeavesInDoubt n (store_of old) (store_of new)
 
 -- the sink failed at what is said of a line: status 8
-pub record IsUnheard (n : Numbered) (before acts : ℕ) (old new : StoreView) (sink_rose : Type 0) (put : List ℕ) (status : ℕ) : Type 0 where
+pub record IsUnheard (n : Numbered) (before acts : ℕ) (old new : LogView) (sink_rose : Type 0) (put : List ℕ) (status : ℕ) : Type 0 where
   pub said : Said
   pub is : IsSaid n said before acts old new
   pub ended : status ≡ 8
@@ -83,27 +86,29 @@ pub record StopsIn (n : Numbered) (old new : StoreView) (disk_rose sink_rose : T
   pub leaves : LeavesInDoubt n old new
 
 -- a line was carried out and told; or the run ends at it
-abbrev pub TellsLine : Numbered → ℕ → ℕ → StoreView → StoreView → (disk_rose sink_rose : Type 0) → List ℕ → Result (Unit {0}) ℕ → Type 0
+abbrev pub TellsLine : Numbered → ℕ → ℕ → LogView → LogView → (disk_rose sink_rose : Type 0) → List ℕ → Result (Unit {0}) ℕ → Type 0
 TellsLine n before acts old new disk_rose sink_rose put (Ok done) = Words n before acts old new put
 TellsLine n before acts old new disk_rose sink_rose put (Err status) =
-    IsUnheard n before acts old new sink_rose put status ⊎ StopsIn n old new disk_rose sink_rose put status
+    IsUnheard n before acts old new sink_rose put status ⊎ StopsIn n (store_of old) (store_of new) disk_rose sink_rose put status
 
--- what was said so far, from a map that stands for a store, over the lines that are no longer left
-pub record SaysSoFar (t : Table) (store : Store) (lines left : List Numbered) (said : List Said) (acts : ℕ) (now : StoreView) : Type 0 where
-  pub behind : Plain
-  pub says : Says t (begun store) lines said left behind
-  pub counted : behind.acts ≡ acts
-  pub stands : Holds now (λ u. StandsFor u behind.store)
+-- what was said so far, in so much room, from a map that stands for a store, over the lines that are no longer left
+pub record SaysSoFar (t : Table) (room : ℕ) (from : Standing) (lines left : List Numbered) (said : List Said) (acts : ℕ) (now : LogView) : Type 0 where
+  pub behind : Standing
+  pub says : Says t room from lines said left behind
+  pub counted : behind.plain.acts ≡ acts
+  pub taken : behind.used ≡ now.used
+  pub stands : Holds (store_of now) (λ u. StandsFor u behind.plain.store)
 
 -- the lines but those that are left were carried out and told
-pub record ToldSoFar (lines left : List Numbered) (acts : ℕ) (old now : StoreView) (put : List ℕ) : Type 0 where
+pub record ToldSoFar (lines left : List Numbered) (acts : ℕ) (old now : LogView) (put : List ℕ) : Type 0 where
   pub said : List Said
   pub put_is : put ≡ texts_of said
   pub live : now.live ≡ true
-  pub sound : Sound now
-  pub goes_on : GoesOn old now
-  pub unreadable : Holds old (λ t. Holds now (SameUnreadable t))
-  pub from : Holds old (λ t. (store : Store) → StandsFor t store → SaysSoFar t store lines left said acts now)
+  pub sound : Sound (store_of now)
+  pub same : SameStore old now
+  pub goes_on : GoesOn (store_of old) (store_of now)
+  pub unreadable : Holds (store_of old) (λ t. Holds (store_of now) (SameUnreadable t))
+  pub from : Holds (store_of old) (λ t. (store : Store) → StandsFor t store → SaysSoFar t old.room (standing store old.used) lines left said acts now)
 
 -- why the base was not opened is told
 abbrev pub TellsUnopened : AttachFault → Type 0 → List ℕ → ℕ → Type 0
@@ -113,9 +118,9 @@ TellsUnopened (fault.WrongPair found want) sink_rose put status = MakesAndTells 
 TellsUnopened fault.NoMemory sink_rose put status = (status ≡ 9) × (put ≡ [])
 
 -- the base was opened, and the lines were carried out; or why it was not
-abbrev pub RunsOn : List Numbered → (disk_rose sink_rose : Type 0) → (base_old base_new : Option (List Draft)) → List ℕ → ℕ → Type 0
-RunsOn lines disk_rose sink_rose base_old base_new put status =
+abbrev pub RunsOn : List Numbered → (room : ℕ) → (disk_rose sink_rose : Type 0) → (base_old base_new : Option (List Draft)) → List ℕ → ℕ → Type 0
+RunsOn lines room disk_rose sink_rose base_old base_new put status =
     LacksMemory base_old base_new put status
     ⊎ BaseFailed disk_rose base_old base_new put status
     ⊎ RefusesImage sink_rose base_old base_new put status
-    ⊎ CarriesLines lines disk_rose sink_rose base_old base_new put status
+    ⊎ CarriesLines lines room disk_rose sink_rose base_old base_new put status

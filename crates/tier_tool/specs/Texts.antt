@@ -89,10 +89,6 @@ abbrev pub no_space_text : ℕ → ℕ → ℕ → ℕ → List ℕ
 no_space_text number used need limit =
     decimal number ++ codes " nospace base " ++ decimal used ++ codes " " ++ decimal need ++ codes " " ++ decimal limit ++ codes "\n"
 
--- what is put for a line whose act the base pool's store is too worn for
-abbrev pub worn_text : ℕ → ℕ → List ℕ
-worn_text number limit = decimal number ++ codes " worn " ++ decimal limit ++ codes "\n"
-
 -- what is put for a line on a name whose value spells no state
 abbrev pub bad_record_text : ℕ → List ℕ → List ℕ
 bad_record_text number name = decimal number ++ codes " badrecord base " ++ name ++ codes "\n"

@@ -7,26 +7,29 @@ ghost use Rattle.obj_model.specs.States.{IsState};
 ghost use Rattle.obj_model.specs.Vectors.{is_write};
 ghost use Rattle.script_lang.specs.Spelling.{IsLine};
 ghost use Rattle.script_lang.specs.declared.line.Line.TheVariants as line;
+ghost use Rattle.log_store.specs.Commits.{SameStore};
+ghost use Rattle.log_store.specs.Views.{store_of};
 ghost use Rattle.store_face.specs.Views.{Sound};
 ghost use Rattle.tier_tool.specs.Bases.{GoesOn, LineEnds, state_key};
 ghost use Rattle.tier_tool.specs.Pools.{line_fault, Found, IsKnown, WasPut};
+ghost use Rattle.tier_tool.specs.Rooms.{LineUses, PutUses};
 ghost use Rattle.tier_tool.specs.declared.base.LineFault.TheVariants.{NoMemory};
 
 use crate::answer::Answer;
+use log_store::LogStore;
 use obj_model::{Bytes, Change, Name, NameState, NoMemory, Req, Vector};
 use obj_ops::{Acted, act, look};
 use rec_codec::{read_state, write_state};
 use script_lang::Line;
 use std::alloc::Global;
 use store_face::{Store, StoreFault};
+use tier_outside::Disk;
 
 /// Why a line was not carried out.
 #[derive(Clone, Copy, Debug, PartialEq, Eq)]
 pub enum LineFault {
     /// So much of the pool's room is used and so much more is needed, above this limit, in bytes. Nothing changed.
     NoSpace { used: u64, need: u64, limit: u64 },
-    /// A number of the pool's store that only rises has reached this limit. Nothing changed.
-    Worn { limit: u64 },
     /// What the pool has under the name spells no state. Nothing changed.
     BadRecord,
     /// The pool's disk failed. The line may have acted or not.
@@ -44,15 +47,18 @@ impl From<NoMemory> for LineFault {
 }
 
 /// Carries a line out on a live store, and tells whether it acted. A kept, stale or worn answer changes nothing and writes nothing.
-pub fn answer<P: Store>(
+#[tactic(auto, using(crate::proofs::Going::log_stood_still))]
+pub fn answer<D: Disk + Drop>(
     alloc: Global,
-    pool: &mut P,
+    pool: &mut LogStore<D>,
     line: &Line,
 ) -> Result<(Answer, bool), LineFault>
-    requires live { (P.state pool.old).live ≡ true }
+    requires live { (store_of pool.old).live ≡ true }
     requires lawful { IsLine line.now }
-    ensures ended { LineEnds line.now (P.state pool.old) (P.state pool.new) result }
-    ensures goes_on { GoesOn (P.state pool.old) (P.state pool.new) }
+    ensures ended { LineEnds line.now (store_of pool.old) (store_of pool.new) result }
+    ensures uses { LineUses line.now pool.old pool.new result }
+    ensures same { SameStore pool.old pool.new }
+    ensures goes_on { GoesOn (store_of pool.old) (store_of pool.new) }
 {
     // A live store has one map, which is a fact that this call brings along.
     let _ = pool.is_live();
@@ -63,13 +69,19 @@ pub fn answer<P: Store>(
 }
 
 // Carries a write request out.
-#[tactic(auto, using(crate::proofs::Views::goes_further))]
-fn request<P: Store>(alloc: Global, pool: &mut P, req: &Req) -> Result<(Answer, bool), LineFault>
-    requires live { (P.state pool.old).live ≡ true }
-    requires sound { Sound (P.state pool.old) }
+#[tactic(auto, using(crate::proofs::Views::goes_further, crate::proofs::Going::log_stood_still))]
+fn request<D: Disk + Drop>(
+    alloc: Global,
+    pool: &mut LogStore<D>,
+    req: &Req,
+) -> Result<(Answer, bool), LineFault>
+    requires live { (store_of pool.old).live ≡ true }
+    requires sound { Sound (store_of pool.old) }
     requires lawful { IsLine (line.Op req.now) }
-    ensures ended { LineEnds (line.Op req.now) (P.state pool.old) (P.state pool.new) result }
-    ensures goes_on { GoesOn (P.state pool.old) (P.state pool.new) }
+    ensures ended { LineEnds (line.Op req.now) (store_of pool.old) (store_of pool.new) result }
+    ensures uses { LineUses (line.Op req.now) pool.old pool.new result }
+    ensures same { SameStore pool.old pool.new }
+    ensures goes_on { GoesOn (store_of pool.old) (store_of pool.new) }
 {
     let before = state_of(alloc, pool, &req.name)?;
     match act(alloc, &before, req)? {
@@ -84,17 +96,18 @@ fn request<P: Store>(alloc: Global, pool: &mut P, req: &Req) -> Result<(Answer, 
 }
 
 // Reads from a name.
-fn reading<P: Store>(
+fn reading<D: Disk + Drop>(
     alloc: Global,
-    pool: &mut P,
+    pool: &mut LogStore<D>,
     name: &Name,
     vector: &Vector,
 ) -> Result<(Answer, bool), LineFault>
-    requires live { (P.state pool.old).live ≡ true }
-    requires sound { Sound (P.state pool.old) }
+    requires live { (store_of pool.old).live ≡ true }
+    requires sound { Sound (store_of pool.old) }
     requires reads { list_any is_write vector.now ≡ false }
-    ensures ended { (client : ℕ) → LineEnds (line.Get client name.now vector.now) (P.state pool.old) (P.state pool.new) result }
-    ensures goes_on { GoesOn (P.state pool.old) (P.state pool.new) }
+    ensures ended { (client : ℕ) → LineEnds (line.Get client name.now vector.now) (store_of pool.old) (store_of pool.new) result }
+    ensures uses { (client : ℕ) → LineUses (line.Get client name.now vector.now) pool.old pool.new result }
+    ensures same { pool.new ≡ pool.old }
 {
     match state_of(alloc, pool, name) {
         Ok(state) => Ok((Answer::of_reading(look(alloc, &state, vector)?), false)),
@@ -120,9 +133,8 @@ fn line_fault(fault: StoreFault) -> LineFault
 {
     match fault {
         StoreFault::Disk => LineFault::Disk,
-        StoreFault::BadImage { .. } => LineFault::BadRecord,
+        StoreFault::BadImage { .. } | StoreFault::Worn { .. } => LineFault::BadRecord,
         StoreFault::NoSpace { used, need, limit } => LineFault::NoSpace { used, need, limit },
-        StoreFault::Worn { limit } => LineFault::Worn { limit },
         StoreFault::NoMemory => LineFault::NoMemory,
     }
 }
@@ -138,11 +150,14 @@ fn spelled(alloc: Global, bytes: &[u8]) -> Result<NameState, LineFault>
 }
 
 // The state of a name, which is the unknown one where the pool has no value for it.
-#[tactic(auto, using(crate::proofs::Going::got_goes_on))]
-fn state_of<P: Store>(alloc: Global, pool: &mut P, name: &Name) -> Result<NameState, LineFault>
-    requires live { (P.state pool.old).live ≡ true }
-    ensures found { Found name.now (P.state pool.old) (P.state pool.new) result }
-    ensures goes_on { GoesOn (P.state pool.old) (P.state pool.new) }
+fn state_of<D: Disk + Drop>(
+    alloc: Global,
+    pool: &mut LogStore<D>,
+    name: &Name,
+) -> Result<NameState, LineFault>
+    requires live { (store_of pool.old).live ≡ true }
+    ensures found { Found name.now (store_of pool.old) (store_of pool.new) result }
+    ensures same { pool.new ≡ pool.old }
 {
     let key = key_of(alloc, name)?;
     match pool.get(key.as_slice()) {
@@ -154,17 +169,19 @@ fn state_of<P: Store>(alloc: Global, pool: &mut P, name: &Name) -> Result<NameSt
 
 // Puts a name's state into the pool.
 #[tactic(auto, using(crate::proofs::Going::committed_goes_on))]
-fn put_state<P: Store>(
+fn put_state<D: Disk + Drop>(
     alloc: Global,
-    pool: &mut P,
+    pool: &mut LogStore<D>,
     name: &Name,
     state: &NameState,
 ) -> Result<(), LineFault>
-    requires live { (P.state pool.old).live ≡ true }
-    requires sound { Sound (P.state pool.old) }
+    requires live { (store_of pool.old).live ≡ true }
+    requires sound { Sound (store_of pool.old) }
     requires lawful { IsState state.now }
-    ensures put { WasPut name.now state.now (P.state pool.old) (P.state pool.new) result }
-    ensures goes_on { GoesOn (P.state pool.old) (P.state pool.new) }
+    ensures put { WasPut name.now state.now (store_of pool.old) (store_of pool.new) result }
+    ensures uses { PutUses name.now state.now pool.old pool.new result }
+    ensures same { SameStore pool.old pool.new }
+    ensures goes_on { GoesOn (store_of pool.old) (store_of pool.new) }
 {
     let key = key_of(alloc, name)?;
     let value = Bytes::from_vec(write_state(alloc, state)?);

@@ -1,6 +1,6 @@
 //! What follows from the definition of the answers, in plain words. These calls do nothing: their contracts are the
 //! laws.
-ghost use Rattle.tier_tool.specs.Laws.{LaterLinesChangeNothing, RequestsMakeTheStore};
+ghost use Rattle.tier_tool.specs.Laws.{LaterLinesChangeNothing, RequestsMakeTheStore, TheNextRunGoesOn};
 
 use script_lang::Numbered;
 
@@ -15,4 +15,10 @@ pub fn later_lines_change_nothing(_before: &[Numbered], _others: &[Numbered])
 #[tactic(auto, using(crate::proofs::Ordered::requests_make))]
 pub fn requests_make_the_store(_lines: &[Numbered])
     ensures { RequestsMakeTheStore _lines.now }
+{}
+
+/// A run that opens a disk which holds a map goes on from the plain store that the map stands for: what was left by a stop, or by the end
+/// of the run before it, is what the lines of the next one are answered from.
+pub fn the_next_run_goes_on()
+    ensures { TheNextRunGoesOn }
 {}

@@ -10,7 +10,6 @@ mod base;
 mod ended;
 mod laws;
 mod pair;
-mod pool;
 mod reading;
 mod run;
 mod saying;
@@ -18,7 +17,7 @@ mod telling;
 mod text;
 
 pub use ended::Ended;
-pub use laws::{later_lines_change_nothing, requests_make_the_store};
+pub use laws::{later_lines_change_nothing, requests_make_the_store, the_next_run_goes_on};
 pub use pair::DiskPair;
 pub use run::tier_main;
 

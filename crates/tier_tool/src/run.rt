@@ -3,17 +3,21 @@
 ghost use Rattle.std.specs.Prelude.{◌≡◌, ◌≤◌, ◌↔◌, IsTrue, All, map, string_bytes};
 ghost use Rattle.script_lang.specs.Spelling.{IsLine};
 ghost use Rattle.tier_outside.specs.Causes.{Rose};
-ghost use Rattle.tier_tool.specs.Main.{AskRun, Carries, IsHandedBack, IsOnePair, IsRoom, Ran, Took, base_faults, base_moments};
+ghost use Rattle.tier_tool.specs.Main.{AskRun, Carries, IsHandedBack, IsOnePair, IsRoom, Ran, Took, base_faults, base_moments, base_room};
 ghost use Rattle.tier_tool.specs.Telling.{RunsOn};
 
 use crate::ended::{Ended, MISUSED, OUT_OF_MEMORY, SOURCE_FAILED};
 use crate::pair::DiskPair;
-use crate::pool::BasePool;
 use crate::reading::{Unread, read_whole};
 use crate::telling::{tell, tell_fault, tell_lines, tell_unopened};
+use log_store::LogStore;
+use obj_model::Pool;
 use script_lang::{Numbered, ScriptFault, read_script};
 use std::alloc::Global;
 use tier_outside::{Disk, Sink, Source};
+
+// The number of the first pair.
+const PAIR: u64 = 257;
 
 // What is put where the words of the command line are refused.
 const USAGE: &str =
@@ -26,8 +30,9 @@ const USAGE: &str =
 /// that is refused puts the one line `script LINE CAUSE`, a base disk that is refused one that begins with `image base 0`, and any other
 /// words put the usage line. The cache disk is not used yet.
 ///
-/// The room of the base is the bytes that its log may use, 64 to 2^40. The disks are handed back in every case. An act that was told
-/// survives any stop of the base's disk.
+/// The room of the base is the bytes that its log may use, 64 to 2^40. Each act uses the room by its record and nothing else does; a line
+/// is refused for space exactly where its record does not fit, and then changes nothing. The disks are handed back in every case, one that
+/// is refused as it was. An act that was told survives any stop of the base's disk.
 ///
 /// It ends with the status that `Ended` explains, and returns on every input. It reads at most 268,439,552 bytes of
 /// the script, and keeps the script and the base's map in memory.
@@ -39,7 +44,7 @@ pub fn tier_main<S: Source, K: Sink, D: Disk + Send + Drop>(
     disks: Vec<DiskPair<D>>,
 ) -> Ended<D>
     requires one_pair { IsOnePair disks.items }
-    ensures ran { Ran (map string_bytes words.now) (S.left script.old) (S.left script.new) (K.held out.old) (K.held out.new) (Rose (S.faults script.old) (S.faults script.new)) (Rose (base_faults D.faults disks.items) (base_faults D.faults result.disks.items)) (Rose (K.faults out.old) (K.faults out.new)) (base_moments D.moments disks.items) (base_moments D.moments result.disks.items) result.status }
+    ensures ran { Ran (map string_bytes words.now) (S.left script.old) (S.left script.new) (K.held out.old) (K.held out.new) (base_room disks.items) (Rose (S.faults script.old) (S.faults script.new)) (Rose (base_faults D.faults disks.items) (base_faults D.faults result.disks.items)) (Rose (K.faults out.old) (K.faults out.new)) (base_moments D.moments disks.items) (base_moments D.moments result.disks.items) result.status }
     ensures back { IsHandedBack disks.items result.disks.items }
     ensures source_later { S.faults script.old ≤ S.faults script.new }
     ensures sink_later { K.faults out.old ≤ K.faults out.new }
@@ -80,7 +85,7 @@ fn run_script<K: Sink, D: Disk + Send + Drop>(
     disks: Vec<DiskPair<D>>,
 ) -> Ended<D>
     requires one_pair { IsOnePair disks.items }
-    ensures told { Took (K.held out.old) (K.held out.new) (λ put. Carries script.now (Rose (base_faults D.faults disks.items) (base_faults D.faults result.disks.items)) (Rose (K.faults out.old) (K.faults out.new)) (base_moments D.moments disks.items) (base_moments D.moments result.disks.items) put result.status) }
+    ensures told { Took (K.held out.old) (K.held out.new) (λ put. Carries script.now (base_room disks.items) (Rose (base_faults D.faults disks.items) (base_faults D.faults result.disks.items)) (Rose (K.faults out.old) (K.faults out.new)) (base_moments D.moments disks.items) (base_moments D.moments result.disks.items) put result.status) }
     ensures back { IsHandedBack disks.items result.disks.items }
     ensures sink_later { K.faults out.old ≤ K.faults out.new }
     ensures disk_later { base_faults D.faults disks.items ≤ base_faults D.faults result.disks.items }
@@ -107,7 +112,7 @@ fn run_lines<K: Sink, D: Disk + Send + Drop>(
 ) -> Ended<D>
     requires one_pair { IsOnePair disks.items }
     requires lawful { All (λ n. IsLine n.line) lines.now }
-    ensures told { Took (K.held out.old) (K.held out.new) (λ put. RunsOn lines.now (Rose (base_faults D.faults disks.items) (base_faults D.faults result.disks.items)) (Rose (K.faults out.old) (K.faults out.new)) (base_moments D.moments disks.items) (base_moments D.moments result.disks.items) put result.status) }
+    ensures told { Took (K.held out.old) (K.held out.new) (λ put. RunsOn lines.now (base_room disks.items) (Rose (base_faults D.faults disks.items) (base_faults D.faults result.disks.items)) (Rose (K.faults out.old) (K.faults out.new)) (base_moments D.moments disks.items) (base_moments D.moments result.disks.items) put result.status) }
     ensures back { IsHandedBack disks.items result.disks.items }
     ensures sink_later { K.faults out.old ≤ K.faults out.new }
     ensures disk_later { base_faults D.faults disks.items ≤ base_faults D.faults result.disks.items }
@@ -147,11 +152,11 @@ fn run_on<K: Sink, D: Disk + Send + Drop>(
 ) -> (u8, D)
     requires room { IsRoom room }
     requires lawful { All (λ n. IsLine n.line) lines.now }
-    ensures told { Took (K.held out.old) (K.held out.new) (λ put. RunsOn lines.now (Rose (D.faults base) (D.faults result.1)) (Rose (K.faults out.old) (K.faults out.new)) (D.moments base) (D.moments result.1) put result.0) }
+    ensures told { Took (K.held out.old) (K.held out.new) (λ put. RunsOn lines.now room (Rose (D.faults base) (D.faults result.1)) (Rose (K.faults out.old) (K.faults out.new)) (D.moments base) (D.moments result.1) put result.0) }
     ensures sink_later { K.faults out.old ≤ K.faults out.new }
     ensures disk_later { D.faults base ≤ D.faults result.1 }
 {
-    match BasePool::attach(alloc, base, room) {
+    match LogStore::attach(alloc, base, Pool::Base, PAIR, room) {
         Ok(mut pool) => {
             let status = tell_lines(alloc, lines, &mut pool, out);
             (status, pool.into_disk())

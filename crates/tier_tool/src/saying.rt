@@ -1,19 +1,23 @@
 //! What is said of a line. The promise: the line is carried out on the pool's store, and the text that is made says what was done.
 ghost use Rattle.std.specs.Prelude.{◌≡◌, ◌≤◌, ◌<◌, ◌+◌, ◌-◌, ◌^◌, ◌++◌, true, OnOk, decimal, codes};
+ghost use Rattle.log_store.specs.Commits.{SameStore};
+ghost use Rattle.log_store.specs.Views.{store_of};
 ghost use Rattle.script_lang.specs.Spelling.{IsLine};
 ghost use Rattle.store_face.specs.Views.{Sound};
 ghost use Rattle.tier_outside.specs.Causes.{Rose};
 ghost use Rattle.tier_tool.specs.Bases.{GoesOn, acts_more, name_of};
 ghost use Rattle.tier_tool.specs.Telling.{IsInWords, SayEnds, SaysFault};
-ghost use Rattle.tier_tool.specs.Texts.{line_text, no_space_text, worn_text, bad_record_text};
+ghost use Rattle.tier_tool.specs.Texts.{line_text, no_space_text, bad_record_text};
 
 use crate::answer::Answer;
 use crate::base::{LineFault, answer};
 use crate::text::Text;
+use log_store::LogStore;
 use obj_model::{Name, NoMemory};
 use script_lang::{Line, Numbered};
 use std::alloc::Global;
 use store_face::Store;
+use tier_outside::Disk;
 
 /// Why nothing is said of a line.
 #[derive(Clone, Copy, Debug, PartialEq, Eq)]
@@ -25,21 +29,22 @@ pub enum Unsaid {
 }
 
 /// Carries a line out, counts it where it acted, and makes the text of what is said of it.
-pub fn say_line<P: Store>(
+pub fn say_line<D: Disk + Drop>(
     alloc: Global,
     numbered: &Numbered,
     acts: &mut u64,
     text: &mut Text,
-    pool: &mut P,
+    pool: &mut LogStore<D>,
 ) -> Result<(), Unsaid>
-    requires live { (P.state pool.old).live ≡ true }
+    requires live { pool.old.live ≡ true }
     requires lawful { IsLine numbered.now.line }
     requires room { acts.old < 2 ^ 64 - 1 }
-    ensures said { SayEnds numbered.now acts.old acts.new (P.state pool.old) (P.state pool.new) text.new result (Rose (P.state pool.old).faults (P.state pool.new).faults) }
-    ensures sound { Sound (P.state pool.new) }
-    ensures goes_on { GoesOn (P.state pool.old) (P.state pool.new) }
+    ensures said { SayEnds numbered.now acts.old acts.new pool.old pool.new text.new result (Rose pool.old.faults pool.new.faults) }
+    ensures sound { Sound (store_of pool.new) }
+    ensures same { SameStore pool.old pool.new }
+    ensures goes_on { GoesOn (store_of pool.old) (store_of pool.new) }
     ensures few { acts.new ≤ acts.old + 1 }
-    ensures later { (P.state pool.old).faults ≤ (P.state pool.new).faults }
+    ensures later { pool.old.faults ≤ pool.new.faults }
 {
     let number = numbered.number;
     let ended = answer(alloc, pool, &numbered.line);
@@ -72,7 +77,6 @@ fn say_fault(numbered: &Numbered, fault: LineFault, text: &mut Text) -> Result<(
         LineFault::NoSpace { used, need, limit } => {
             in_words(write_no_space(number, used, need, limit, text))
         }
-        LineFault::Worn { limit } => in_words(write_worn(number, limit, text)),
         LineFault::BadRecord => {
             in_words(write_bad_record(number, name_of(&numbered.line), text))
         }
@@ -134,16 +138,6 @@ fn write_amounts(used: u64, need: u64, limit: u64, text: &mut Text) -> Result<()
     text.push(" ")?;
     text.push_number(need)?;
     text.push(" ")?;
-    text.push_number(limit)?;
-    text.push("\n")
-}
-
-// The pool's store is too worn for a line's act.
-fn write_worn(number: u32, limit: u64, text: &mut Text) -> Result<(), NoMemory>
-    ensures { OnOk result (text.new ≡ text.old ++ worn_text number limit) }
-{
-    text.push_number(u64::from(number))?;
-    text.push(" worn ")?;
     text.push_number(limit)?;
     text.push("\n")
 }

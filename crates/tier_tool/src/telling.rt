@@ -1,6 +1,8 @@
 //! Puts the texts of a run into the sink, one text a call. The promise: what was put is what is said of the lines, in their order, and a
 //! line's text is put before the next line is carried out.
 ghost use Rattle.std.specs.Prelude.{◌≡◌, ◌≤◌, ◌<◌, ◌+◌, ◌-◌, ◌^◌, ◌++◌, [], ◌∷◌, true, OnOk, All};
+ghost use Rattle.log_store.specs.Commits.{SameStore};
+ghost use Rattle.log_store.specs.Views.{store_of};
 ghost use Rattle.script_lang.specs.Spelling.{IsLine};
 ghost use Rattle.store_face.specs.Views.{Sound};
 ghost use Rattle.tier_outside.specs.Causes.{Rose};
@@ -13,12 +15,12 @@ ghost use Rattle.tier_tool.specs.Texts.{fault_text, cause_word, disk_fault_text,
 use crate::ended::{ANSWERED, DISK_FAILED, IMAGE_REFUSED, OUT_OF_MEMORY, REFUSED, SINK_FAILED};
 use crate::saying::{Unsaid, say_line};
 use crate::text::Text;
-use log_store::AttachFault;
+use log_store::{AttachFault, LogStore};
 use obj_model::NoMemory;
 use script_lang::{Cause, Numbered};
 use std::alloc::Global;
 use store_face::Store;
-use tier_outside::Sink;
+use tier_outside::{Disk, Sink};
 
 /// Puts one text. The status is the one that is due where the sink takes it.
 pub fn tell<K: Sink>(text: &[u8], due: u8, out: &mut K) -> u8
@@ -57,18 +59,19 @@ pub fn tell_unopened<K: Sink>(alloc: Global, fault: AttachFault, out: &mut K) ->
 }
 
 /// Carries all lines out on a live store, and puts what is said of each before the next is carried out.
-pub fn tell_lines<P: Store, K: Sink>(
+pub fn tell_lines<D: Disk + Drop, K: Sink>(
     alloc: Global,
     lines: &[Numbered],
-    pool: &mut P,
+    pool: &mut LogStore<D>,
     out: &mut K,
 ) -> u8
-    requires live { (P.state pool.old).live ≡ true }
+    requires live { pool.old.live ≡ true }
     requires lawful { All (λ n. IsLine n.line) lines.now }
-    ensures told { Took (K.held out.old) (K.held out.new) (λ put. TellsLines lines.now (P.state pool.old) (P.state pool.new) (Rose (P.state pool.old).faults (P.state pool.new).faults) (Rose (K.faults out.old) (K.faults out.new)) put result) }
-    ensures goes_on { GoesOn (P.state pool.old) (P.state pool.new) }
+    ensures told { Took (K.held out.old) (K.held out.new) (λ put. TellsLines lines.now pool.old pool.new (Rose pool.old.faults pool.new.faults) (Rose (K.faults out.old) (K.faults out.new)) put result) }
+    ensures same { SameStore pool.old pool.new }
+    ensures goes_on { GoesOn (store_of pool.old) (store_of pool.new) }
     ensures sink_later { K.faults out.old ≤ K.faults out.new }
-    ensures disk_later { (P.state pool.old).faults ≤ (P.state pool.new).faults }
+    ensures disk_later { pool.old.faults ≤ pool.new.faults }
 {
     // A live store has one map, which is a fact that this call brings along.
     let _ = pool.is_live();
@@ -84,23 +87,24 @@ pub fn tell_lines<P: Store, K: Sink>(
 }
 
 // Carries a line out, and puts what is said of it. An error is the status with which the run ends.
-fn tell_line<P: Store, K: Sink>(
+fn tell_line<D: Disk + Drop, K: Sink>(
     alloc: Global,
     numbered: &Numbered,
     acts: &mut u64,
     text: &mut Text,
-    pool: &mut P,
+    pool: &mut LogStore<D>,
     out: &mut K,
 ) -> Result<(), u8>
-    requires live { (P.state pool.old).live ≡ true }
+    requires live { pool.old.live ≡ true }
     requires lawful { IsLine numbered.now.line }
     requires room { acts.old < 2 ^ 64 - 1 }
-    ensures told { Took (K.held out.old) (K.held out.new) (λ put. TellsLine numbered.now acts.old acts.new (P.state pool.old) (P.state pool.new) (Rose (P.state pool.old).faults (P.state pool.new).faults) (Rose (K.faults out.old) (K.faults out.new)) put result) }
-    ensures sound { Sound (P.state pool.new) }
-    ensures goes_on { GoesOn (P.state pool.old) (P.state pool.new) }
+    ensures told { Took (K.held out.old) (K.held out.new) (λ put. TellsLine numbered.now acts.old acts.new pool.old pool.new (Rose pool.old.faults pool.new.faults) (Rose (K.faults out.old) (K.faults out.new)) put result) }
+    ensures sound { Sound (store_of pool.new) }
+    ensures same { SameStore pool.old pool.new }
+    ensures goes_on { GoesOn (store_of pool.old) (store_of pool.new) }
     ensures few { acts.new ≤ acts.old + 1 }
     ensures sink_later { K.faults out.old ≤ K.faults out.new }
-    ensures disk_later { (P.state pool.old).faults ≤ (P.state pool.new).faults }
+    ensures disk_later { pool.old.faults ≤ pool.new.faults }
 {
     match say_line(alloc, numbered, acts, text, pool) {
         Ok(()) => match out.put(text.as_slice()) {

@@ -175,3 +175,20 @@ fn a_full_base(rt: HostRuntime) -> Result<(), Fail> {
     }
     Ok(())
 }
+
+// Under the key of `a` stands the byte h, which spells no state. It stays as it is, and other names are answered.
+#[test]
+fn an_unreadable_name(rt: HostRuntime) -> Result<(), Fail> {
+    let alloc = rt.alloc();
+    let bytes: &[u8] =
+        b"\x01\0\0\0\x11RTLOG001\x02\0\0\0\0\0\0\x01\x01\x01\0\0\0\x0b\x01\x01\0\x02Na\0\0\0\x01h\0";
+    let script: &[u8] = b"op 1 1 a writefull 61\nget 1 a read 0 0\nop 1 1 b writefull 62\n";
+    let text: &[u8] = b"1 badrecord base a\n2 badrecord base a\n3 done v1 @1\n";
+    let base = memory(&rt, alloc, bytes, None, 0, Pick::Old)?;
+    let (status, sink, base) = run_on(&rt, alloc, script, base, ROOM, 0)?;
+    assert_eq!(rt; (status, sink.bytes()), (0, text));
+    let (status, sink, _) = run_on(&rt, alloc, script, base, ROOM, 0)?;
+    let again: &[u8] = b"1 badrecord base a\n2 badrecord base a\n3 done v1 @0 kept\n";
+    assert_eq!(rt; (status, sink.bytes()), (0, again));
+    Ok(())
+}

@@ -11,7 +11,7 @@ run_lines-requires-clause-lawful g c κs within = rw c.as_slice.ensures.value (l
 pub returns-in-Ok-clause-told : goal.returns-in-Ok-clause-told
 returns-in-Ok-clause-told g c =
     let told = c.run_lines.ensures.told in
-    (told.0, told.1, script_carries _ _ _ _ _ _ _ _ (subst (IsScript c.args.script.now) (sym c.as_slice.ensures.value) c.in-Ok.ensures) told.2)
+    (told.0, told.1, script_carries _ _ _ _ _ _ _ _ _ (subst (IsScript c.args.script.now) (sym c.as_slice.ensures.value) c.in-Ok.ensures) told.2)
 
 pub returns-in-Err-NoMemory-clause-told : goal.returns-in-Err-NoMemory-clause-told
 returns-in-Err-NoMemory-clause-told g c = ([], gains_none _, inl (record { ended = refl; silent = refl; base_kept = untouched _ }))

@@ -26,7 +26,7 @@ returns-in-Ok-clause-ran g c =
       given = c.in-Ok.ensures.given;
       put = told.0;
       taken = told.1;
-      ends = inr (record { words_taken = c.if-not-ask_run.ensures.0 refl; ends = run_ends _ _ _ _ _ _ _ _ _ _ c.as_slice.ensures.value c.in-Ok.ensures.whole told.2 });
+      ends = inr (record { words_taken = c.if-not-ask_run.ensures.0 refl; ends = run_ends _ _ _ _ _ _ _ _ _ _ _ c.as_slice.ensures.value c.in-Ok.ensures.whole told.2 });
     }
 
 pub returns-in-Err-Fault-clause-ran : goal.returns-in-Err-Fault-clause-ran
