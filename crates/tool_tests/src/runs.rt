@@ -1,6 +1,8 @@
 //! Runs whose texts were worked out by hand.
 use crate::tools::{memory, run_on};
-use mem_disk::Pick;
+use mem_disk::{MemDisk, Pick};
+use std::alloc::Global;
+use std::process::Abort;
 use std::test::Fail;
 
 const ROOM: u64 = 4096;
@@ -58,27 +60,35 @@ fn scripts_on_an_empty_base(rt: HostRuntime) -> Result<(), Fail> {
     Ok(())
 }
 
+// A run that puts this text and ends well: the disk that it leaves.
+fn run_puts(
+    rt: &impl Abort,
+    alloc: Global,
+    script: &[u8],
+    base: MemDisk,
+    text: &[u8],
+) -> Result<MemDisk, Fail> {
+    let (status, sink, base) = run_on(rt, alloc, script, base, ROOM, 0)?;
+    assert_eq!(rt; (status, sink.bytes()), (0, text));
+    Ok(base)
+}
+
 // What was kept is answered as kept; the places are the acts of this run.
 #[test]
 fn the_same_disks_again(rt: HostRuntime) -> Result<(), Fail> {
     let alloc = rt.alloc();
-    let base = memory(&rt, alloc, b"", None, 0, Pick::Old)?;
-    let (status, sink, base) = run_on(&rt, alloc, TWO, base, ROOM, 0)?;
-    assert_eq!(rt;
-        (status, sink.bytes()),
-        (0, b"1 done v1 @1\n2 values v1 @1 616263\n".as_slice())
-    );
-    let (status, sink, base) = run_on(&rt, alloc, TWO, base, ROOM, 0)?;
-    assert_eq!(rt;
-        (status, sink.bytes()),
-        (0, b"1 done v1 @0 kept\n2 values v1 @0 616263\n".as_slice())
-    );
-    let more = b"op 1 2 a remove\nget 1 a read 0 0\n";
-    let (status, sink, _) = run_on(&rt, alloc, more, base, ROOM, 0)?;
-    assert_eq!(rt;
-        (status, sink.bytes()),
-        (0, b"1 done v2 @1\n2 refused 0 noent v2 @1\n".as_slice())
-    );
+    let table: [(&[u8], &[u8]); 3] = [
+        (TWO, b"1 done v1 @1\n2 values v1 @1 616263\n"),
+        (TWO, b"1 done v1 @0 kept\n2 values v1 @0 616263\n"),
+        (
+            b"op 1 2 a remove\nget 1 a read 0 0\n",
+            b"1 done v2 @1\n2 refused 0 noent v2 @1\n",
+        ),
+    ];
+    let mut base = memory(&rt, alloc, b"", None, 0, Pick::Old)?;
+    for (script, text) in table {
+        base = run_puts(&rt, alloc, script, base, text)?;
+    }
     Ok(())
 }
 
@@ -180,15 +190,21 @@ fn a_full_base(rt: HostRuntime) -> Result<(), Fail> {
 #[test]
 fn an_unreadable_name(rt: HostRuntime) -> Result<(), Fail> {
     let alloc = rt.alloc();
-    let bytes: &[u8] =
-        b"\x01\0\0\0\x11RTLOG001\x02\0\0\0\0\0\0\x01\x01\x01\0\0\0\x0b\x01\x01\0\x02Na\0\0\0\x01h\0";
     let script: &[u8] = b"op 1 1 a writefull 61\nget 1 a read 0 0\nop 1 1 b writefull 62\n";
-    let text: &[u8] = b"1 badrecord base a\n2 badrecord base a\n3 done v1 @1\n";
-    let base = memory(&rt, alloc, bytes, None, 0, Pick::Old)?;
-    let (status, sink, base) = run_on(&rt, alloc, script, base, ROOM, 0)?;
-    assert_eq!(rt; (status, sink.bytes()), (0, text));
-    let (status, sink, _) = run_on(&rt, alloc, script, base, ROOM, 0)?;
-    let again: &[u8] = b"1 badrecord base a\n2 badrecord base a\n3 done v1 @0 kept\n";
-    assert_eq!(rt; (status, sink.bytes()), (0, again));
+    let table: [&[u8]; 2] = [
+        b"1 badrecord base a\n2 badrecord base a\n3 done v1 @1\n",
+        b"1 badrecord base a\n2 badrecord base a\n3 done v1 @0 kept\n",
+    ];
+    let mut base = memory(
+        &rt,
+        alloc,
+        b"\x01\0\0\0\x11RTLOG001\x02\0\0\0\0\0\0\x01\x01\x01\0\0\0\x0b\x01\x01\0\x02Na\0\0\0\x01h\0",
+        None,
+        0,
+        Pick::Old,
+    )?;
+    for text in table {
+        base = run_puts(&rt, alloc, script, base, text)?;
+    }
     Ok(())
 }
