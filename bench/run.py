@@ -7,7 +7,7 @@
 A commit costs two writes, each of which is settled before the next: its record, and the one byte that opens the record's gate. The bound is
 that alone: 64 bytes are written behind a file's end, fdatasync, one byte of them is written again, fdatasync, as many times as the script
 has writes. The bound is measured before and after each run, in the same folder, and the ratio is the program's commits a second to the mean
-of the two. Then the same script runs in a folder without a disk behind it (a tmpfs), where a sync costs nothing: that is the time of the
+of the two. The answers go to a file in memory, so that no reader of them takes part. Then the same script runs in a folder without a disk behind it (a tmpfs), where a sync costs nothing: that is the time of the
 code alone. All in one call, so that the figures of one call can be compared.
 """
 import argparse
@@ -40,18 +40,19 @@ def bound(folder, commits):
     return commits / seconds
 
 
-def timed(folder, script, lines):
-    """Seconds of one run over new disks in a folder, whose answers are checked."""
+def timed(folder, memory, script, lines):
+    """Seconds of one run over new disks in a folder, whose answers go to a file in memory and are checked."""
     place = tempfile.mkdtemp(dir=folder)
     try:
-        with open(script, "rb") as source:
+        with open(script, "rb") as source, tempfile.TemporaryFile(dir=memory) as sink:
             begin = time.perf_counter()
-            done = subprocess.run([PROGRAM, "run"], stdin=source, stdout=subprocess.PIPE, cwd=place, check=True)
+            subprocess.run([PROGRAM, "run"], stdin=source, stdout=sink, cwd=place, check=True)
             seconds = time.perf_counter() - begin
+            sink.seek(0)
+            told = sink.read().decode().splitlines()
         used = os.path.getsize(os.path.join(place, "base0.img"))
     finally:
         shutil.rmtree(place)
-    told = done.stdout.decode().splitlines()
     wrong = [line for line in told if line.split(" ")[1] not in ("done", "values") or line.endswith(" kept")]
     if len(told) != lines or wrong:
         sys.exit(f"{len(told)} answers, {len(wrong)} of them wrong: {wrong[:1]}")
@@ -69,6 +70,7 @@ def main():
     if not os.path.exists(PROGRAM):
         sys.exit("the program is not built: cd crates/rados_tier && rt run -- run < stdin")
     text, commits = load.mixed(asked.lines, asked.names)
+    memory = asked.no_sync if os.path.isdir(asked.no_sync) else None
     with tempfile.TemporaryDirectory(dir=asked.folder) as folder:
         script = os.path.join(folder, "script")
         with open(script, "wb") as file:
@@ -76,7 +78,7 @@ def main():
         print(f"script: {asked.lines} lines over {asked.names} names, {commits} of them writes")
         before = bound(folder, commits)
         for run in range(1, asked.runs + 1):
-            seconds, used = timed(folder, script, asked.lines)
+            seconds, used = timed(folder, memory, script, asked.lines)
             after = bound(folder, commits)
             rate, limit = commits / seconds, (before + after) / 2
             print(
@@ -84,9 +86,9 @@ def main():
                 f"bound {before:,.0f} before and {after:,.0f} after, ratio {rate / limit:.3f}, {used} bytes of log"
             )
             before = after
-        if os.path.isdir(asked.no_sync):
+        if memory is not None:
             for run in range(1, asked.runs + 1):
-                seconds, _ = timed(asked.no_sync, script, asked.lines)
+                seconds, _ = timed(memory, memory, script, asked.lines)
                 print(f"without a disk {run}: {seconds:.3f} s, {asked.lines / seconds:,.0f} lines/s, {commits / seconds:,.0f} commits/s")
 
 

@@ -92,6 +92,18 @@ fn the_same_disks_again(rt: HostRuntime) -> Result<(), Fail> {
     Ok(())
 }
 
+// The sink fails at the second text: the first line was told, and its object is there.
+#[test]
+fn a_sink_that_fails_at_its_second_put(rt: HostRuntime) -> Result<(), Fail> {
+    let alloc = rt.alloc();
+    let base = memory(&rt, alloc, b"", None, 0, Pick::Old)?;
+    let (status, sink, base) = run_on(&rt, alloc, TWO, base, ROOM, 2)?;
+    assert_eq!(rt; (status, sink.bytes()), (8, b"1 done v1 @1\n".as_slice()));
+    let again = b"1 done v1 @0 kept\n2 values v1 @0 616263\n";
+    run_puts(&rt, alloc, TWO, base, again)?;
+    Ok(())
+}
+
 // Wherever the sink fails, the texts before were put, and what they told is kept; so is the act of the line that was not heard.
 #[test]
 fn failing_sinks(rt: HostRuntime) -> Result<(), Fail> {
