@@ -1,5 +1,5 @@
 -- How the calls on a pool's store end, from what its clauses say of its moments.
-use Rattle.std.proofs.Common.{◌≡◌, ◌≤◌, ◌⊎◌, inl, inr, ℕ, true, List, [], ◌∷◌, ◌++◌, Option, Some, None, Ok, Err, refl, sym, ap, ap₂, subst, ◌∙◌, arith}
+use Rattle.std.proofs.Common.{◌≡◌, ◌⊎◌, inl, inr, ℕ, true, List, [], ◌∷◌, ◌++◌, Option, Some, None, Ok, Err, refl, sym, ap, ap₂, subst, ◌∙◌, arith}
 use Rattle.std.proofs.lemmas.List.{append-nil}
 use Rattle.obj_model.specs.declared.change.Change.{Change}
 use Rattle.obj_model.specs.declared.change.Change.TheVariants.{Put}
@@ -12,7 +12,7 @@ use Rattle.store_face.specs.Views.{StoreView, Sides, one_map, last, Now, Holds, 
 use Rattle.store_face.specs.Calls.{Stays, Fails, IsOneOf, Committed}
 use Rattle.store_face.specs.declared.fault.StoreFault.{StoreFault}
 use Rattle.store_face.specs.declared.fault.StoreFault.TheVariants as store
-use Rattle.tier_outside.specs.Causes.{Rose}
+use Rattle.tier_tool.proofs.Told.{rose_later}
 pub use Rattle.tier_tool.proofs.Views.{At, now_weaker, now_same}
 use Rattle.tier_tool.specs.Bases.{state_key}
 use Rattle.tier_tool.specs.Rooms.{change_of, PutUses}
@@ -46,9 +46,6 @@ grows_by (Some ss) n more P Q grew each was weaker =
 -- what each moment that came has, and the one that was now, the moment now has
 pub grows : (old new : StoreView) (P Q : Sides → Sides → Type 0) → Grows old new P → Now old (λ was. Q was was) → ((was s : Sides) → P was s → Q was s) → Now old (λ was. Now new (Q was))
 grows old new P Q h was weaker = grows_by old.moments new.moments h.more P Q h.grew h.each was weaker
-
-pub rose_later : (a b c : ℕ) → a ≤ b → Rose b c → Rose a c
-rose_later a b c h k = omega arith
 
 -- a call that changed nothing, and one that did not either
 pub stays_twice : (a b c : StoreView) → Stays a b → Stays b c → Stays a c

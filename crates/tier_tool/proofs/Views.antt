@@ -1,10 +1,6 @@
 -- What is known of a store now, and how it goes on over calls.
-use Rattle.std.proofs.Common.{◌≡◌, ℕ, List, [], ◌++◌, Option, Some, None, Result, Ok, Err, refl, sym, ap, subst, ◌∙◌, append_assoc}
+use Rattle.std.proofs.Common.{◌≡◌, List, [], ◌++◌, Option, Some, None, refl, sym, ap, subst, ◌∙◌, append_assoc}
 use Rattle.std.proofs.lemmas.List.{append-nil}
-use Rattle.obj_model.specs.declared.change.Change.{Change}
-use Rattle.store_face.specs.Calls.{Committed, Got, ReadFails}
-use Rattle.store_face.specs.declared.fault.StoreFault.{StoreFault}
-use Rattle.store_face.specs.declared.fault.StoreFault.TheVariants as fault
 use Rattle.store_face.specs.Views.{StoreView, Sides, last, grown}
 use Rattle.tier_tool.specs.Bases.{GoesOn}
 
@@ -50,27 +46,3 @@ goes_further a b c h k = record {
   more = h.more ++ k.more;
   grew = k.grew ∙ ap (λ m. grown m k.more) h.grew ∙ grown_twice a.moments h.more k.more;
 }
-
-same_came : (a b : StoreView) → b.moments ≡ a.moments → GoesOn a b
-same_came a b same = record { more = []; grew = same ∙ grown_none a.moments }
-
-read_failed : (fault : StoreFault) (a b : StoreView) → ReadFails fault a b → GoesOn a b
-read_failed fault.Disk a b h = same_came a b h.1
-read_failed (fault.BadImage at) a b h = absurd h
-read_failed (fault.NoSpace used need limit) a b h = absurd h
-read_failed (fault.Worn limit) a b h = absurd h
-read_failed fault.NoMemory a b h = same_came a b h.moments
-
--- a value was looked up
-pub got_on : (key : List ℕ) (result : Result (Option (List ℕ)) StoreFault) (a b : StoreView) → Got key a b result → GoesOn a b
-got_on key (Ok value) a b h = same_came a b h.0.moments
-got_on key (Err why) a b h = read_failed why a b h
-
--- changes were made, or not
-pub committed_on : (changes : List Change) (result : Result (Unit {0}) StoreFault) (a b : StoreView) → Committed changes a b result → GoesOn a b
-committed_on changes (Ok done) a b h = record { more = h.0.more; grew = h.0.grew }
-committed_on changes (Err fault.Disk) a b h = record { more = h.0.more; grew = h.0.grew }
-committed_on changes (Err (fault.BadImage at)) a b h = absurd h
-committed_on changes (Err (fault.NoSpace used need limit)) a b h = same_came a b h.0.moments
-committed_on changes (Err (fault.Worn limit)) a b h = same_came a b h.0.moments
-committed_on changes (Err fault.NoMemory) a b h = same_came a b h.moments

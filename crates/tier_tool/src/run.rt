@@ -127,10 +127,7 @@ fn run_lines<K: Sink, D: Disk + Send + Drop>(
         },
     ) = disks.pop()
     else {
-        return Ended {
-            status: MISUSED,
-            disks,
-        };
+        unreachable!()
     };
     let (status, base) = run_on(alloc, lines, out, base, base_room);
     disks.push_reserved(DiskPair {
