@@ -1,7 +1,7 @@
 -- How a store over a log is opened.
 use Rattle.std.specs.Prelude.{◌≡◌, ◌≢◌, ◌⊎◌, ℕ, List, [], ◌∷◌, Option, Result, Ok, Err, true}
 use Rattle.obj_model.specs.declared.change.Pool.{Pool}
-use Rattle.tier_outside.specs.Disk.{Draft, IsImage}
+use Rattle.tier_outside.specs.Disk.{DiskMoment, IsImage}
 use Rattle.tier_outside.specs.Moments.{Now}
 use Rattle.gate_journal.specs.Stands.{Leaves}
 use Rattle.store_face.specs.declared.fault.StoreFault.{StoreFault}
@@ -17,7 +17,7 @@ use Rattle.log_store.specs.declared.fault.Found.{Found}
 use Rattle.log_store.specs.declared.fault.Found.TheVariants as found
 
 -- what a stop left of the disk has P
-abbrev pub Left : Option (List Draft) → (List ℕ → Type 0) → Type 0
+abbrev pub Left : Option (List DiskMoment) → (List ℕ → Type 0) → Type 0
 Left moments P = Now moments (λ d. (image : List ℕ) × IsImage d image × P image)
 
 -- an image is opened as this log: it is blank for the pair, and then the log is new, or it holds the log
@@ -26,13 +26,13 @@ OpensAs role pair log image = (IsBlank role pair image × (log ≡ no_txns)) ⊎
 
 -- What a stop may leave while a store is opened: what a stop might leave before; or, where such an image was blank, one that is still
 -- blank, or that holds a log without transactions.
-abbrev pub OpeningStops : Pool → ℕ → Draft → List ℕ → Type 0
+abbrev pub OpeningStops : Pool → ℕ → DiskMoment → List ℕ → Type 0
 OpeningStops role pair d image =
     IsImage d image
     ⊎ ((was : List ℕ) × IsImage d was × IsBlank role pair was × (IsBlank role pair image ⊎ HoldsLog role pair image no_txns))
 
 -- a store was opened
-pub record Opened (role : Pool) (pair room : ℕ) (moments : Option (List Draft)) (v : LogView) : Type 0 where
+pub record Opened (role : Pool) (pair room : ℕ) (moments : Option (List DiskMoment)) (v : LogView) : Type 0 where
   pub live : v.live ≡ true
   pub role_is : v.role ≡ role
   pub pair_is : v.pair ≡ pair
@@ -42,21 +42,21 @@ pub record Opened (role : Pool) (pair room : ℕ) (moments : Option (List Draft)
   pub from : Left moments (OpensAs role pair (record { table = table; used = v.used }))
 
 -- Why a store was not opened: the disk failed, or what a stop left of it is no log of the pool, or one of another pair.
-abbrev pub Refused : Pool → ℕ → Option (List Draft) → (failed : Type 0) → AttachFault → Type 0
+abbrev pub Refused : Pool → ℕ → Option (List DiskMoment) → (failed : Type 0) → AttachFault → Type 0
 Refused role pair moments failed fault.Disk = failed
 Refused role pair moments failed (fault.BadImage at) = Left moments (λ image. IsBad role pair image at)
 Refused role pair moments failed (fault.WrongPair other want) = (want ≡ pair) × (other ≢ pair) × Left moments (IsOf role other)
 Refused role pair moments failed fault.NoMemory = Unit {0}
 
 -- What is refused for what stands on it is not written: a stop leaves of it what it might have left before.
-abbrev pub KeepsRefused : Option (List Draft) → Option (List Draft) → AttachFault → Type 0
+abbrev pub KeepsRefused : Option (List DiskMoment) → Option (List DiskMoment) → AttachFault → Type 0
 KeepsRefused old new fault.Disk = Unit {0}
 KeepsRefused old new (fault.BadImage at) = Leaves old new IsImage
 KeepsRefused old new (fault.WrongPair other want) = Leaves old new IsImage
 KeepsRefused old new fault.NoMemory = Unit {0}
 
 -- what was found by a look: an empty disk, or the pair of the log that it holds; or why it is refused
-abbrev pub PeekEnds : Pool → Option (List Draft) → (failed : Type 0) → Result Found AttachFault → Type 0
+abbrev pub PeekEnds : Pool → Option (List DiskMoment) → (failed : Type 0) → Result Found AttachFault → Type 0
 PeekEnds role moments failed (Ok found.Empty) = Left moments (IsEmpty role)
 PeekEnds role moments failed (Ok (found.Pair pair)) = Left moments (IsHeaded role pair)
 PeekEnds role moments failed (Err fault.Disk) = failed
@@ -65,7 +65,7 @@ PeekEnds role moments failed (Err (fault.WrongPair other want)) = ⊥
 PeekEnds role moments failed (Err fault.NoMemory) = ⊥
 
 -- Why a log was not read anew: the disk failed, or what a stop left of it holds no log of the pool and pair.
-abbrev pub NotReread : Pool → ℕ → Option (List Draft) → (failed : Type 0) → StoreFault → Type 0
+abbrev pub NotReread : Pool → ℕ → Option (List DiskMoment) → (failed : Type 0) → StoreFault → Type 0
 NotReread role pair moments failed store.Disk = failed
 NotReread role pair moments failed (store.BadImage at) = Left moments (λ image. (log : Log) → ¬ HoldsLog role pair image log)
 NotReread role pair moments failed store.NoMemory = Unit {0}

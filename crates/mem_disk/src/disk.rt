@@ -2,7 +2,7 @@
 //! proved over any disk may be run over it with a stop at any call.
 ghost use Rattle.std.specs.Prelude.{◌≡◌, ◌⊎◌, ◌≤◌, ◌+◌, ◌-◌, ◌/◌, ◌^◌, min, max, nat_lt, if◌then◌else◌, List, ℕ, Option, length, take, IfOk, OnOk, OnErr, false};
 ghost use Rattle.tier_outside.specs.Causes.{HasCause, Rose};
-ghost use Rattle.tier_outside.specs.Disk.{Draft, IsImage, Writes, Cuts, Syncs, Restarts, Reads, written, resized};
+ghost use Rattle.tier_outside.specs.Disk.{DiskMoment, IsImage, Writes, Cuts, Syncs, Restarts, Reads, written, resized};
 ghost use Rattle.tier_outside.specs.Moments.{Now, Then, Goes, last};
 ghost use Rattle.mem_disk.specs.Memory.{Counts, CountsRestart, FailsWhereDue, FailsOrGrows, WroteHalf, CutHalf, fresh, is_due, is_listed, tallied};
 ghost use Rattle.mem_disk.specs.Memory as mem;
