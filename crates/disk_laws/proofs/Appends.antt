@@ -4,9 +4,9 @@ use Rattle.std.proofs.Common.{ap, ap₂, ◌∙◌, sym, subst, inl, inr, arith}
 use Rattle.std.proofs.lemmas.Bool.Decides.{nat_tests}
 use Rattle.std.proofs.lemmas.List.{append_assoc, length-append, take-append-drop, take_at, drop_at, drop_more}
 use Rattle.tier_outside.specs.Disk.{DiskMoment, FrontStands, IsImage, SameOutside, Syncs, Writes, settled, written}
-use Rattle.tier_outside.specs.Moments.{Goes, Now, Since, Then}
+use Rattle.tier_outside.specs.DiskMoments.{Goes, Now, Since, Then}
 use Rattle.tier_outside.proofs.DiskImages.{front_image, inside_image, settled_front, settled_only, write_front, write_stable, written_after, written_inside, written_there}
-use Rattle.tier_outside.proofs.Moments.{now_call, now_done, now_weaker, since_call, since_start, since_step, since_sync}
+use Rattle.tier_outside.proofs.DiskMoments.{now_call, now_done, now_weaker, since_call, since_start, since_step, since_sync}
 use Rattle.disk_laws.specs.Records.{OldOrNew, Spells, Stands, StandsBefore, records}
 
 -- the records and their closed gate are settled, and stand

@@ -5,7 +5,7 @@ use Rattle.std.proofs.lemmas.Bool.{cases_lt, cases_eq}
 use Rattle.std.proofs.lemmas.Bool.Decides.{nat_tests}
 use Rattle.std.proofs.lemmas.List.{length-take}
 use Rattle.tier_outside.specs.Disk.{DiskMoment, IsImage, settled, written}
-use Rattle.tier_outside.specs.Moments.{last, grown, Now, Then}
+use Rattle.tier_outside.specs.DiskMoments.{last, grown, Now, Then}
 use Rattle.gate_journal.specs.declared.journal.Journal.{Journal}
 use Rattle.gate_journal.specs.Journals.{AreRecords, IsClosed, Spells, behind_gate}
 use Rattle.gate_journal.specs.Stands.{RangeStands, StandsAs, StopsIn, Leaves, HoldsWithOrWithout, gate_alone, longer, recorded}

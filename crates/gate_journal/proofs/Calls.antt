@@ -3,8 +3,8 @@ use Rattle.std.specs.Prelude.{◌≡◌, ◌⊎◌, ◌≤◌, ◌<◌, ◌+◌,
 use Rattle.std.proofs.Common.{◌∙◌, sym, subst, ap, arith, inl, inr}
 use Rattle.std.proofs.lemmas.List.{length-take}
 use Rattle.tier_outside.specs.Disk.{DiskMoment, IsImage, settled, written}
-use Rattle.tier_outside.specs.Moments.{last, grown, Now, Then}
-use Rattle.tier_outside.proofs.Moments.{now_weaker}
+use Rattle.tier_outside.specs.DiskMoments.{last, grown, Now, Then}
+use Rattle.tier_outside.proofs.DiskMoments.{now_weaker}
 use Rattle.gate_journal.specs.declared.journal.Journal.{Journal}
 use Rattle.gate_journal.specs.Journals.{IsClosed, behind_gate}
 use Rattle.gate_journal.specs.Stands.{Standing, StandsAs, StopsIn, Leaves, HoldsWithOrWithout, gate_alone, longer, recorded}

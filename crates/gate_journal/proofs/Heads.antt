@@ -5,7 +5,7 @@ use Rattle.std.proofs.lemmas.Bool.{cases_lt}
 use Rattle.std.proofs.lemmas.List.{get_or-take, length-take, drop-take, take-take, take_all}
 use Rattle.byteorder.specs.Endian.{big_number}
 use Rattle.tier_outside.specs.Disk.{DiskMoment, Reads}
-use Rattle.tier_outside.specs.Moments.{last, Now}
+use Rattle.tier_outside.specs.DiskMoments.{last, Now}
 use Rattle.gate_journal.specs.Journals.{IsRecord, IsBroken, IsClosed, IsCut, size_at}
 use Rattle.gate_journal.specs.Steps.{IsOpen}
 use Rattle.gate_journal.proofs.Records.{same_number, index_drop, index_take}

@@ -2,9 +2,9 @@
 use Rattle.std.specs.Prelude.{◌≡◌, ◌+◌, ℕ, List, [], ◌∷◌, ◌++◌, length, Option, Some, None, refl}
 use Rattle.std.proofs.Common.{◌∙◌, sym, subst, ap, inl, inr, arith}
 use Rattle.tier_outside.specs.Disk.{DiskMoment, IsImage, Writes, Syncs, settled, written}
-use Rattle.tier_outside.specs.Moments.{last, Now, Then, Goes, Since, grown}
+use Rattle.tier_outside.specs.DiskMoments.{last, Now, Then, Goes, Since, grown}
 use Rattle.tier_outside.proofs.DiskImages.{settled_only}
-use Rattle.tier_outside.proofs.Moments.{last_push, since_start, since_same, since_call, since_weaker, since_trans, now_done, now_both, now_weaker}
+use Rattle.tier_outside.proofs.DiskMoments.{last_push, since_start, since_same, since_call, since_weaker, since_trans, now_done, now_both, now_weaker}
 use Rattle.gate_journal.specs.Journals.{IsClosed}
 use Rattle.gate_journal.specs.Stands.{Leaves, StopsIn}
 use Rattle.gate_journal.specs.Steps.{AddStops, GateStops, staged, opened}

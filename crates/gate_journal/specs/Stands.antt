@@ -1,7 +1,7 @@
 -- A journal on a disk that may stop: what stands of it, and what each image of a moment may hold.
 use Rattle.std.specs.Prelude.{◌≡◌, ◌⊎◌, ℕ, ◌+◌, ◌<◌, ◌≤◌, ◌^◌, List, [], ◌∷◌, ◌++◌, length, slice_index, Option, false}
 use Rattle.tier_outside.specs.Disk.{DiskMoment, IsImage, is_touched, touch, written}
-use Rattle.tier_outside.specs.Moments.{Now, Since}
+use Rattle.tier_outside.specs.DiskMoments.{Now, Since}
 use Rattle.gate_journal.specs.Journals.{Spells, behind_gate}
 use Rattle.gate_journal.specs.declared.journal.Journal.{Journal}
 

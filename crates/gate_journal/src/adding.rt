@@ -2,7 +2,7 @@
 ghost use Rattle.std.specs.Prelude.{◌≡◌, ◌⊎◌, ◌+◌, ◌<◌, ◌≤◌, ◌^◌, List, ℕ, [], ◌∷◌, ◌++◌, length, IfOk, OnOk, OnErr};
 ghost use Rattle.tier_outside.specs.Causes.{Rose};
 ghost use Rattle.tier_outside.specs.Disk.{settled};
-ghost use Rattle.tier_outside.specs.Moments.{Now, Then};
+ghost use Rattle.tier_outside.specs.DiskMoments.{Now, Then};
 ghost use Rattle.gate_journal.specs.Calls.{AddEnds};
 ghost use Rattle.gate_journal.specs.Journals.{IsClosed};
 ghost use Rattle.gate_journal.specs.Stands.{InRange, Leaves, Standing, StandsAs, StopsIn, HoldsWithOrWithout, gate_alone, longer, recorded};

@@ -2,7 +2,7 @@
 ghost use Rattle.std.specs.Prelude.{◌≡◌, ◌+◌, ◌<◌, ◌≤◌, ◌^◌, length, OnOk, IfOk};
 ghost use Rattle.tier_outside.specs.Causes.{HasCause};
 ghost use Rattle.tier_outside.specs.Disk.{settled, written};
-ghost use Rattle.tier_outside.specs.Moments.{Then};
+ghost use Rattle.tier_outside.specs.DiskMoments.{Then};
 ghost use Rattle.gate_journal.specs.Stands.{Leaves, StopsIn};
 ghost use Rattle.gate_journal.specs.Steps.{AddStops, GateCloses, GateStops, opened, staged};
 

@@ -6,9 +6,9 @@ use Rattle.std.proofs.lemmas.Bool.{cases_lt, cases_eq}
 use Rattle.std.proofs.lemmas.List.{get_or-take, length-take, length-drop}
 use Rattle.obj_model.specs.declared.change.Pool.{Pool}
 use Rattle.tier_outside.specs.Disk.{DiskMoment, settled, written}
-use Rattle.tier_outside.specs.Moments.{last, Now, Then}
+use Rattle.tier_outside.specs.DiskMoments.{last, Now, Then}
 use Rattle.tier_outside.proofs.DiskImages.{length_written, written_there}
-use Rattle.tier_outside.proofs.Moments.{since_weaker, now_both}
+use Rattle.tier_outside.proofs.DiskMoments.{since_weaker, now_both}
 use Rattle.gate_journal.specs.Journals.{Spells, behind_gate}
 use Rattle.gate_journal.specs.Stands.{Leaves, StopsIn}
 use Rattle.gate_journal.proofs.Adds.{settled_stands}

@@ -6,8 +6,8 @@ use Rattle.obj_model.specs.declared.change.Pool.{Pool}
 use Rattle.store_face.specs.declared.fault.StoreFault.{StoreFault}
 use Rattle.store_face.specs.declared.fault.StoreFault.TheVariants.{Disk, BadImage, NoSpace, Worn, NoMemory}
 use Rattle.tier_outside.specs.Disk.{DiskMoment}
-use Rattle.tier_outside.specs.Moments.{Now}
-use Rattle.tier_outside.proofs.Moments.{now_weaker, now_both}
+use Rattle.tier_outside.specs.DiskMoments.{Now}
+use Rattle.tier_outside.proofs.DiskMoments.{now_weaker, now_both}
 use Rattle.gate_journal.specs.declared.journal.Journal.{Journal}
 use Rattle.gate_journal.specs.Calls.{Found, WalkEnds}
 use Rattle.gate_journal.specs.Journals.{Means, Broken, Spells}

@@ -9,7 +9,7 @@ use Rattle.byteorder.specs.Endian.{big_bytes, big_number}
 use Rattle.byteorder.specs.Numbers.{big_from-take, big_from-lt, length-bytes_high_first}
 use Rattle.obj_model.specs.declared.change.Pool.{Pool}
 use Rattle.tier_outside.specs.Disk.{DiskMoment, Reads}
-use Rattle.tier_outside.specs.Moments.{last, Now}
+use Rattle.tier_outside.specs.DiskMoments.{last, Now}
 use Rattle.gate_journal.proofs.Records.{index_take}
 use Rattle.rec_codec.proofs.BlockLaws.{u64_reads}
 use Rattle.rec_codec.proofs.Readers.{IsBytes, IsBytes-drop}

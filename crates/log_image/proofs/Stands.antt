@@ -7,8 +7,8 @@ use Rattle.obj_model.specs.declared.change.Change.{Change}
 use Rattle.obj_model.specs.declared.change.Pool.{Pool}
 use Rattle.store_face.specs.Tables.{Table, changed_by}
 use Rattle.tier_outside.specs.Disk.{DiskMoment, IsImage, settled}
-use Rattle.tier_outside.specs.Moments.{last, Now, Then}
-use Rattle.tier_outside.proofs.Moments.{since_weaker}
+use Rattle.tier_outside.specs.DiskMoments.{last, Now, Then}
+use Rattle.tier_outside.proofs.DiskMoments.{since_weaker}
 use Rattle.gate_journal.specs.declared.journal.Journal.{Journal}
 use Rattle.gate_journal.specs.Journals.{Spells}
 use Rattle.gate_journal.specs.Stands.{RangeStands, StandsAs, HoldsWithOrWithout, Leaves, longer}

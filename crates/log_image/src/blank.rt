@@ -2,7 +2,7 @@
 ghost use Rattle.std.specs.Prelude.{◌≡◌, ◌≤◌, length, slice_index, IfOk, OnOk};
 ghost use Rattle.std.specs.FinMap as fin;
 ghost use Rattle.tier_outside.specs.Causes.{HasCause};
-ghost use Rattle.tier_outside.specs.Moments.{Now};
+ghost use Rattle.tier_outside.specs.DiskMoments.{Now};
 ghost use Rattle.gate_journal.specs.Stands.{Leaves};
 ghost use Rattle.log_image.specs.Images.{IsHalfOpen, rest};
 ghost use Rattle.log_image.specs.Fronts.{IsUnwritten};

@@ -12,8 +12,8 @@ use Rattle.obj_model.specs.declared.change.Change.TheVariants.{Put, Remove}
 use Rattle.obj_model.specs.declared.change.Pool.{Pool}
 use Rattle.tier_outside.specs.Causes.{Rose}
 use Rattle.tier_outside.specs.Disk.{DiskMoment, EachImage}
-use Rattle.tier_outside.specs.Moments.{last, Now, Then}
-use Rattle.tier_outside.proofs.Moments.{now_since, now_weaker, since_weaker}
+use Rattle.tier_outside.specs.DiskMoments.{last, Now, Then}
+use Rattle.tier_outside.proofs.DiskMoments.{now_since, now_weaker, since_weaker}
 use Rattle.gate_journal.specs.declared.journal.Journal.{Journal}
 use Rattle.gate_journal.specs.Stands.{Leaves, Standing, StandsAs, HoldsWithOrWithout, longer}
 use Rattle.pool_map.specs.Pools.{PoolView, at_rest}

@@ -3,8 +3,8 @@ use Rattle.std.specs.Prelude.{◌≡◌, ◌≢◌, ◌<◌, ◌+◌, ◌^◌, �
 use Rattle.std.proofs.Common.{◌∙◌, sym, subst, inl, inr}
 use Rattle.obj_model.specs.declared.change.Pool.{Pool}
 use Rattle.tier_outside.specs.Disk.{DiskMoment, IsImage, Restarts}
-use Rattle.tier_outside.specs.Moments.{last, Now, Then, grown}
-use Rattle.tier_outside.proofs.Moments.{now_weaker, now_both}
+use Rattle.tier_outside.specs.DiskMoments.{last, Now, Then, grown}
+use Rattle.tier_outside.proofs.DiskMoments.{now_weaker, now_both}
 use Rattle.gate_journal.specs.declared.journal.Journal.{Journal}
 use Rattle.gate_journal.specs.Stands.{Leaves}
 use Rattle.gate_journal.proofs.Steps.{leaves_both, leaves_weaker}

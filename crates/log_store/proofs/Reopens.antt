@@ -5,8 +5,8 @@ use Rattle.std.proofs.lemmas.List.{append-nil}
 use Rattle.obj_model.specs.declared.change.Pool.{Pool}
 use Rattle.tier_outside.specs.Causes.{Rose}
 use Rattle.tier_outside.specs.Disk.{DiskMoment, IsImage}
-use Rattle.tier_outside.specs.Moments.{last, grown, Now}
-use Rattle.tier_outside.proofs.Moments.{now_since, since_weaker}
+use Rattle.tier_outside.specs.DiskMoments.{last, grown, Now}
+use Rattle.tier_outside.proofs.DiskMoments.{now_since, since_weaker}
 use Rattle.gate_journal.specs.declared.journal.Journal.{Journal}
 use Rattle.gate_journal.specs.Stands.{Leaves}
 use Rattle.pool_map.specs.Pools.{PoolView}

@@ -2,7 +2,7 @@
 use Rattle.std.specs.Prelude.{◌≡◌, ℕ, ◌≤◌, ◌^◌, Bool, true, List, [], Option}
 use Rattle.obj_model.specs.declared.change.Pool.{Pool}
 use Rattle.tier_outside.specs.Disk.{DiskMoment}
-use Rattle.tier_outside.specs.Moments.{Now}
+use Rattle.tier_outside.specs.DiskMoments.{Now}
 use Rattle.gate_journal.specs.declared.journal.Journal.{Journal}
 use Rattle.pool_map.specs.Pools.{PoolView}
 use Rattle.store_face.specs.Views.{Sides, one_map, last}

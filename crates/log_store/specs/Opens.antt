@@ -2,7 +2,7 @@
 use Rattle.std.specs.Prelude.{◌≡◌, ◌≢◌, ◌⊎◌, ℕ, List, [], ◌∷◌, Option, Result, Ok, Err, true}
 use Rattle.obj_model.specs.declared.change.Pool.{Pool}
 use Rattle.tier_outside.specs.Disk.{DiskMoment, IsImage}
-use Rattle.tier_outside.specs.Moments.{Now}
+use Rattle.tier_outside.specs.DiskMoments.{Now}
 use Rattle.gate_journal.specs.Stands.{Leaves}
 use Rattle.store_face.specs.declared.fault.StoreFault.{StoreFault}
 use Rattle.store_face.specs.declared.fault.StoreFault.TheVariants as store

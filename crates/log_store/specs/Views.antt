@@ -5,7 +5,7 @@ use Rattle.std.specs.Coded.{Coded, code_by, coded×, coded_ℕ, coded_list, code
 use Rattle.obj_model.specs.declared.change.Pool.{Pool}
 use Rattle.obj_model.specs.contracts.change.Pool as pool
 use Rattle.tier_outside.specs.Disk.{DiskMoment, EachImage}
-use Rattle.tier_outside.specs.Moments.{Now}
+use Rattle.tier_outside.specs.DiskMoments.{Now}
 use Rattle.store_face.specs.Tables.{Table}
 use Rattle.store_face.specs.Views.{Sides, StoreView}
 use Rattle.log_image.specs.Images.{HoldsMap}

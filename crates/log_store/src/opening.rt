@@ -2,7 +2,7 @@
 ghost use Rattle.std.specs.Prelude.{◌≡◌, ◌+◌, ◌≤◌, [], IfOk, IfErr, OnOk};
 ghost use Rattle.tier_outside.specs.Causes.{HasCause, Rose};
 ghost use Rattle.tier_outside.specs.Disk.{IsImage, Restarts};
-ghost use Rattle.tier_outside.specs.Moments.{Now, Then};
+ghost use Rattle.tier_outside.specs.DiskMoments.{Now, Then};
 ghost use Rattle.gate_journal.specs.Stands.{Leaves};
 ghost use Rattle.log_image.specs.Fronts.{FrontIs};
 ghost use Rattle.log_image.specs.Images.{HoldsLog};

@@ -3,8 +3,8 @@ use Rattle.std.specs.Prelude.{◌≡◌, ◌≤◌, ℕ, List, [], ◌∷◌, �
 use Rattle.std.proofs.Common.{ap, ◌∙◌, sym, subst, inr, arith}
 use Rattle.std.specs.declared.snapshot.Snapshot.{Snapshot}
 use Rattle.tier_outside.specs.Disk.{DiskMoment, IsImage, Writes, Cuts, settled, touch, trim, written, resized}
-use Rattle.tier_outside.specs.Moments.{last, Goes}
-use Rattle.tier_outside.proofs.Moments.{last_push}
+use Rattle.tier_outside.specs.DiskMoments.{last, Goes}
+use Rattle.tier_outside.proofs.DiskMoments.{last_push}
 use Rattle.tier_outside.proofs.DiskImages.{written_image, resized_image, settled_image, write_image, cut_image}
 use Rattle.mem_disk.specs.declared.state.State.{State}
 use Rattle.mem_disk.specs.Memory.{moment_of, moments_of, IsSound}

@@ -3,7 +3,7 @@ use Rattle.std.specs.Prelude.{◌≡◌, ◌⊎◌, ℕ, ◌+◌, ◌-◌, ◌^�
 use Rattle.std.specs.List.{list_any}
 use Rattle.std.specs.declared.snapshot.Snapshot.{Snapshot}
 use Rattle.tier_outside.specs.Disk.{DiskMoment, IsImage, settled, written, resized}
-use Rattle.tier_outside.specs.Moments.{last}
+use Rattle.tier_outside.specs.DiskMoments.{last}
 use Rattle.mem_disk.specs.declared.pick.Pick.{Pick}
 use Rattle.mem_disk.specs.declared.state.State.{State}
 

@@ -2,7 +2,7 @@
 //! alone and takes no memory.
 ghost use Rattle.std.specs.Prelude.{◌≡◌, ◌≤◌, ◌+◌, ◌-◌, ◌^◌, Some, List, [], ◌∷◌, length, take, drop, min, max, OnOk, OnErr, IfOk};
 ghost use Rattle.tier_outside.specs.Disk.{DiskMoment, IsImage, Writes, Cuts, Syncs, Restarts, Reads, settled, written, resized};
-ghost use Rattle.tier_outside.specs.Moments.{last, Goes};
+ghost use Rattle.tier_outside.specs.DiskMoments.{last, Goes};
 ghost use Rattle.mem_disk.specs.Picks.{Picked};
 ghost use Rattle.mem_disk.specs.Memory.{moment_of};
 

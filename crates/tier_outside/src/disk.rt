@@ -3,7 +3,7 @@
 ghost use Rattle.std.specs.Prelude.{◌≡◌, ◌+◌, ◌^◌, ◌≤◌, List, ℕ, Option, length, IfOk, OnOk, OnErr};
 ghost use Rattle.tier_outside.specs.Causes.{HasCause};
 ghost use Rattle.tier_outside.specs.Disk.{DiskMoment, IsImage, Writes, Cuts, Syncs, Restarts, Reads, written, resized};
-ghost use Rattle.tier_outside.specs.Moments.{Now, Then, Goes};
+ghost use Rattle.tier_outside.specs.DiskMoments.{Now, Then, Goes};
 
 /// The disk failed.
 #[derive(Clone, Copy, Debug, PartialEq, Eq)]

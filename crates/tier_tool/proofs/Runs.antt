@@ -6,8 +6,8 @@ use Rattle.script_lang.specs.declared.line.Numbered.{Numbered}
 use Rattle.script_lang.specs.Scripts.{IsScript}
 use Rattle.tier_outside.specs.Causes.{Rose}
 use Rattle.tier_outside.specs.Disk.{DiskMoment, EachImage, IsImage}
-use Rattle.tier_outside.specs.Moments.{Now, last, grown}
-use Rattle.tier_outside.proofs.Moments.{now_since, now_weaker}
+use Rattle.tier_outside.specs.DiskMoments.{Now, last, grown}
+use Rattle.tier_outside.proofs.DiskMoments.{now_since, now_weaker}
 use Rattle.gate_journal.specs.Stands.{Leaves}
 use Rattle.store_face.specs.Tables.{Table}
 use Rattle.store_face.specs.Views.{Sides, one_map}

@@ -7,7 +7,7 @@ use Rattle.script_lang.specs.Scripts.{IsScript, IsFault}
 use Rattle.script_lang.specs.declared.line.Numbered.{Numbered}
 use Rattle.script_lang.specs.declared.read.Cause.{Cause}
 use Rattle.tier_outside.specs.Disk.{DiskMoment, EachImage, IsImage}
-use Rattle.tier_outside.specs.Moments.{Now}
+use Rattle.tier_outside.specs.DiskMoments.{Now}
 use Rattle.tier_outside.specs.Streams.{Loses, Gains}
 use Rattle.store_face.specs.Tables.{Table}
 use Rattle.log_image.specs.Fronts.{IsBad, IsOf}

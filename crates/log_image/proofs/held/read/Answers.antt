@@ -1,6 +1,6 @@
 use Rattle.std.proofs.Common.{◌+◌, sym, subst}
 use Rattle.tier_outside.specs.Causes.{Rose}
-use Rattle.tier_outside.specs.Moments.{Now}
+use Rattle.tier_outside.specs.DiskMoments.{Now}
 use Rattle.gate_journal.specs.Stands.{RangeStands, StandsAs}
 use Rattle.gate_journal.proofs.Walks.{err_is}
 use Rattle.log_image.specs.Calls.{ReadEnds}

@@ -1,7 +1,7 @@
 use Rattle.std.specs.Prelude.{length, ◌≡◌, ◌++◌, ◌∷◌, []}
 use Rattle.std.proofs.Common.{arith, ap, ◌∙◌}
 use Rattle.tier_outside.specs.Disk.{Cuts}
-use Rattle.tier_outside.specs.Moments.{last}
+use Rattle.tier_outside.specs.DiskMoments.{last}
 use Rattle.mem_disk.specs.Memory.{moment_of}
 use Rattle.mem_disk.proofs.Pushed.{cuts, gone, image_now, length_now, sound_cut}
 use Rattle.mem_disk.proofs.platter.Platter.cut.Goals as goal
