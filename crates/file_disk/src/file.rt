@@ -1,5 +1,5 @@
 //! The disk over a file. Each fault that it answers is an error of the system, and is counted.
-ghost use Rattle.std.specs.Prelude.{◌≤◌, None, IfOk, IfSome, length};
+ghost use Rattle.std.specs.Prelude.{◌≡◌, ◌≤◌, None, IfOk, IfSome, length};
 ghost use Rattle.tier_outside.specs.Causes.{Rose};
 
 use crate::folder::sync_folder;
@@ -28,7 +28,9 @@ where
 {
     /// Opens the file for reading and writing, and makes it where it is absent. A file that was made, or has no byte yet, is durable in
     /// its folder before this answers Ok.
-    pub fn attach(rt: &R, path: &str) -> Result<FileDisk<R>, DiskFault> {
+    pub fn attach(rt: &R, path: &str) -> Result<FileDisk<R>, DiskFault>
+        ensures { IfOk result (λ d. d.faults ≡ 0) }
+    {
         let mut how = OpenOptions::new();
         how.read(true).write(true).create(true).truncate(false);
         let file = match how.open(rt, path) {

@@ -4,11 +4,11 @@ use Rattle.std.proofs.Common.{◌∙◌, sym, subst, ap, arith, inl, inr}
 use Rattle.std.proofs.lemmas.Bool.{cases_lt, cases_eq}
 use Rattle.std.proofs.lemmas.Bool.Decides.{nat_tests}
 use Rattle.std.proofs.lemmas.List.{length-take}
-use Rattle.tier_outside.specs.Disk.{DiskMoment, IsImage, settled, written}
-use Rattle.tier_outside.specs.DiskMoments.{last, grown, Now, Then}
+use Rattle.tier_outside.specs.Disk.{DiskMoment, IsImage, settled, written, RangeStands, StopsIn}
+use Rattle.tier_outside.specs.DiskMoments.{last, grown, Now, Then, Leaves}
 use Rattle.gate_journal.specs.declared.journal.Journal.{Journal}
 use Rattle.gate_journal.specs.Journals.{AreRecords, IsClosed, Spells, behind_gate}
-use Rattle.gate_journal.specs.Stands.{RangeStands, StandsAs, StopsIn, Leaves, HoldsWithOrWithout, gate_alone, longer, recorded}
+use Rattle.gate_journal.specs.Stands.{StandsAs, HoldsWithOrWithout, gate_alone, longer, recorded}
 use Rattle.gate_journal.specs.Steps.{AddStops, GateCloses, staged, opened}
 use Rattle.gate_journal.proofs.Images.{untouched_more, stops_wider, stops_again, stops_front, stops_behind, stops_within}
 use Rattle.gate_journal.proofs.Records.{SameBytes, same_part, ThereAt, index_take, index_cons, records_order, records_frame, spells_frame, spells_push, there_record, length_behind}

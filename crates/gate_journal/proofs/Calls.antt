@@ -2,12 +2,12 @@
 use Rattle.std.specs.Prelude.{◌≡◌, ◌⊎◌, ◌≤◌, ◌<◌, ◌+◌, ◌^◌, ℕ, List, [], ◌∷◌, ◌++◌, length, take, slice_index, Option, Some, None, refl}
 use Rattle.std.proofs.Common.{◌∙◌, sym, subst, ap, arith, inl, inr}
 use Rattle.std.proofs.lemmas.List.{length-take}
-use Rattle.tier_outside.specs.Disk.{DiskMoment, IsImage, settled, written}
-use Rattle.tier_outside.specs.DiskMoments.{last, grown, Now, Then}
+use Rattle.tier_outside.specs.Disk.{DiskMoment, IsImage, settled, written, StopsIn}
+use Rattle.tier_outside.specs.DiskMoments.{last, grown, Now, Then, Leaves}
 use Rattle.tier_outside.proofs.DiskMoments.{now_weaker}
 use Rattle.gate_journal.specs.declared.journal.Journal.{Journal}
 use Rattle.gate_journal.specs.Journals.{IsClosed, behind_gate}
-use Rattle.gate_journal.specs.Stands.{Standing, StandsAs, StopsIn, Leaves, HoldsWithOrWithout, gate_alone, longer, recorded}
+use Rattle.gate_journal.specs.Stands.{Standing, StandsAs, HoldsWithOrWithout, gate_alone, longer, recorded}
 use Rattle.gate_journal.specs.Steps.{AddStops, GateCloses, GateStops, staged, opened}
 use Rattle.gate_journal.proofs.Adds.{with_or_without, stands_added, add_outside, once_opened, there_opened, settled_stands, spelled_more}
 use Rattle.gate_journal.proofs.Images.{stops_wider, stops_again}

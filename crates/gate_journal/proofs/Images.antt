@@ -2,9 +2,8 @@
 use Rattle.std.specs.Prelude.{◌≡◌, ◌≤◌, ◌<◌, ◌+◌, ℕ, List, [], ◌∷◌, ◌++◌, length, slice_index, max, false, nat_le, nat_lt, ◌&&◌, ◌||◌, refl}
 use Rattle.std.proofs.Common.{◌∙◌, sym, subst, ap, arith}
 use Rattle.std.proofs.lemmas.Bool.Decides.{nat_tests}
-use Rattle.tier_outside.specs.Disk.{DiskMoment, IsImage, Writes, settled, touch, reach, is_touched}
+use Rattle.tier_outside.specs.Disk.{DiskMoment, IsImage, Writes, settled, touch, reach, is_touched, StopsIn}
 use Rattle.tier_outside.proofs.DiskImages.{touched_more, split_touched, settled_only}
-use Rattle.gate_journal.specs.Stands.{StopsIn}
 
 -- a byte that a wider range does not hold
 narrower : (off count off2 count2 i : ℕ) → off2 ≤ off → off + count ≤ off2 + count2

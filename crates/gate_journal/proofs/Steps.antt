@@ -1,12 +1,11 @@
 -- What stands, and what a stop leaves, after the steps of a call.
 use Rattle.std.specs.Prelude.{◌≡◌, ◌+◌, ℕ, List, [], ◌∷◌, ◌++◌, length, Option, Some, None, refl}
 use Rattle.std.proofs.Common.{◌∙◌, sym, subst, ap, inl, inr, arith}
-use Rattle.tier_outside.specs.Disk.{DiskMoment, IsImage, Writes, Syncs, settled, written}
-use Rattle.tier_outside.specs.DiskMoments.{last, Now, Then, Goes, Since, grown}
+use Rattle.tier_outside.specs.Disk.{DiskMoment, IsImage, Writes, Syncs, settled, written, StopsIn}
+use Rattle.tier_outside.specs.DiskMoments.{last, Now, Then, Goes, Since, grown, Leaves}
 use Rattle.tier_outside.proofs.DiskImages.{settled_only}
 use Rattle.tier_outside.proofs.DiskMoments.{last_push, since_start, since_same, since_call, since_weaker, since_trans, now_done, now_both, now_weaker}
 use Rattle.gate_journal.specs.Journals.{IsClosed}
-use Rattle.gate_journal.specs.Stands.{Leaves, StopsIn}
 use Rattle.gate_journal.specs.Steps.{AddStops, GateStops, staged, opened}
 use Rattle.gate_journal.proofs.Images.{stops_before, stops_written}
 

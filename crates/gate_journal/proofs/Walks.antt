@@ -6,12 +6,12 @@ use Rattle.std.proofs.lemmas.List.{take_all}
 use Rattle.store_face.specs.declared.fault.StoreFault.{StoreFault}
 use Rattle.store_face.specs.declared.fault.StoreFault.TheVariants.{Disk, BadImage, NoSpace, Worn, NoMemory}
 use Rattle.tier_outside.specs.Causes.{Rose}
-use Rattle.tier_outside.specs.Disk.{DiskMoment, IsImage}
+use Rattle.tier_outside.specs.Disk.{DiskMoment, IsImage, RangeStands}
 use Rattle.tier_outside.specs.DiskMoments.{last, Now}
 use Rattle.gate_journal.specs.declared.journal.Journal.{Journal}
 use Rattle.gate_journal.specs.Calls.{Found, WalkEnds}
 use Rattle.gate_journal.specs.Journals.{IsRecord, AreRecords, IsClosed, IsBroken, Means, Spelled, Broken, Spells}
-use Rattle.gate_journal.specs.Stands.{RangeStands, StandsAs}
+use Rattle.gate_journal.specs.Stands.{StandsAs}
 use Rattle.gate_journal.specs.Steps.{RecordRead}
 use Rattle.gate_journal.proofs.Records.{SameBytes, records_push, spells_frame}
 

@@ -1,15 +1,8 @@
 -- A journal on a disk that may stop: what stands of it, and what each image of a moment may hold.
 use Rattle.std.specs.Prelude.{◌≡◌, ◌⊎◌, ℕ, ◌+◌, ◌<◌, ◌≤◌, ◌^◌, List, [], ◌∷◌, ◌++◌, length, slice_index, Option, false}
-use Rattle.tier_outside.specs.Disk.{DiskMoment, IsImage, is_touched, touch, written}
-use Rattle.tier_outside.specs.DiskMoments.{Now, Since}
+use Rattle.tier_outside.specs.Disk.{DiskMoment, RangeStands, written}
 use Rattle.gate_journal.specs.Journals.{Spells, behind_gate}
 use Rattle.gate_journal.specs.declared.journal.Journal.{Journal}
-
--- the bytes of a range are settled: no write since began among them, and the disk was never shorter
-pub record RangeStands (from to : ℕ) (d : DiskMoment) : Type 0 where
-  pub there : to ≤ length d.stable
-  pub within : to ≤ d.low
-  pub untouched : (i : ℕ) → from ≤ i → i < to → is_touched d.touched i ≡ false
 
 -- the places of a journal on a disk of at most 2^41 bytes
 pub record InRange (journal : Journal) : Type 0 where
@@ -40,14 +33,6 @@ abbrev pub HoldsWithOrWithout : Journal → List (List ℕ) → List ℕ → Lis
 HoldsWithOrWithout journal payloads payload image =
     Spells journal.start journal.end image payloads journal.next
     ⊎ Spells journal.start journal.end image (payloads ++ payload ∷ []) (longer journal payload).next
-
--- a stop might leave this image in one write to this range, and nothing outside of it
-abbrev pub StopsIn : ℕ → ℕ → DiskMoment → List ℕ → Type 0
-StopsIn off count d image = IsImage (touch off count d.content d) image
-
--- at each moment since, a stop leaves only what stands so to the moment before
-abbrev pub Leaves : Option (List DiskMoment) → Option (List DiskMoment) → (DiskMoment → List ℕ → Type 0) → Type 0
-Leaves old new Q = Since old new (λ image. Now old (λ d. Q d image))
 
 -- what a disk reads as where the open record of a payload and a closed gate behind it stand at a gate
 abbrev pub recorded : ℕ → List ℕ → List ℕ → List ℕ

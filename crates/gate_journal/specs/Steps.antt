@@ -2,10 +2,9 @@
 use Rattle.std.specs.Prelude.{◌≡◌, ◌⊎◌, ℕ, ◌+◌, ◌<◌, ◌≤◌, List, [], ◌∷◌, length, take, slice_index, Option, None, Some, Result, Ok, Err}
 use Rattle.store_face.specs.declared.fault.StoreFault.{StoreFault}
 use Rattle.store_face.specs.declared.fault.StoreFault.TheVariants.{Disk, BadImage, NoSpace, Worn, NoMemory}
-use Rattle.tier_outside.specs.Disk.{DiskMoment, IsImage, settled, written}
+use Rattle.tier_outside.specs.Disk.{DiskMoment, IsImage, settled, written, StopsIn}
 use Rattle.tier_outside.specs.DiskMoments.{Now}
 use Rattle.gate_journal.specs.Journals.{IsRecord, IsClosed, IsBroken, size_at}
-use Rattle.gate_journal.specs.Stands.{StopsIn}
 
 -- these bytes are written behind a gate
 abbrev pub staged : ℕ → List ℕ → List ℕ → List ℕ

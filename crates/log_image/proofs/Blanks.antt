@@ -5,12 +5,11 @@ use Rattle.std.proofs.Common.{◌∙◌, sym, subst, ap, arith, inl, inr}
 use Rattle.std.proofs.lemmas.Bool.{cases_lt, cases_eq}
 use Rattle.std.proofs.lemmas.List.{get_or-take, length-take, length-drop}
 use Rattle.obj_model.specs.declared.change.Pool.{Pool}
-use Rattle.tier_outside.specs.Disk.{DiskMoment, settled, written}
-use Rattle.tier_outside.specs.DiskMoments.{last, Now, Then}
+use Rattle.tier_outside.specs.Disk.{DiskMoment, settled, written, StopsIn, IsSettled}
+use Rattle.tier_outside.specs.DiskMoments.{last, Now, Then, Leaves}
 use Rattle.tier_outside.proofs.DiskImages.{length_written, written_there}
 use Rattle.tier_outside.proofs.DiskMoments.{since_weaker, now_both}
 use Rattle.gate_journal.specs.Journals.{Spells, behind_gate}
-use Rattle.gate_journal.specs.Stands.{Leaves, StopsIn}
 use Rattle.gate_journal.proofs.Adds.{settled_stands}
 use Rattle.gate_journal.proofs.Images.{stops_front, stops_behind, stops_within}
 use Rattle.gate_journal.proofs.Records.{SameBytes, same_body, ThereAt, there_record, index_drop, index_cons}
@@ -18,7 +17,7 @@ use Rattle.gate_journal.proofs.Steps.{leaves_both, leaves_weaker, Put}
 use Rattle.gate_journal.proofs.Writes.{written_in, written_behind}
 use Rattle.log_image.specs.Images.{HoldsLog, IsHalfOpen, head, no_txns, rest}
 use Rattle.log_image.specs.Fronts.{IsUnwritten}
-use Rattle.log_image.specs.Standing.{BlankOrNew, IsSettled, LogStands, first_journal}
+use Rattle.log_image.specs.Standing.{BlankOrNew, LogStands, first_journal}
 use Rattle.log_image.specs.Steps.{IsZeroed, RestStands}
 
 -- ---- a log without transactions

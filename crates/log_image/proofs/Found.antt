@@ -5,13 +5,13 @@ use Rattle.std.proofs.lemmas.List.{length-take}
 use Rattle.obj_model.specs.declared.change.Pool.{Pool}
 use Rattle.store_face.specs.declared.fault.StoreFault.{StoreFault}
 use Rattle.store_face.specs.declared.fault.StoreFault.TheVariants.{Disk, BadImage, NoSpace, Worn, NoMemory}
-use Rattle.tier_outside.specs.Disk.{DiskMoment}
+use Rattle.tier_outside.specs.Disk.{DiskMoment, RangeStands}
 use Rattle.tier_outside.specs.DiskMoments.{Now}
 use Rattle.tier_outside.proofs.DiskMoments.{now_weaker, now_both}
 use Rattle.gate_journal.specs.declared.journal.Journal.{Journal}
 use Rattle.gate_journal.specs.Calls.{Found, WalkEnds}
 use Rattle.gate_journal.specs.Journals.{Means, Broken, Spells}
-use Rattle.gate_journal.specs.Stands.{RangeStands, StandsAs}
+use Rattle.gate_journal.specs.Stands.{StandsAs}
 use Rattle.gate_journal.proofs.Records.{index_take}
 use Rattle.pool_map.specs.Pools.{PoolView}
 use Rattle.log_image.specs.Calls.{Held, ReadEnds}

@@ -6,12 +6,12 @@ use Rattle.std.proofs.lemmas.List.{length-take}
 use Rattle.obj_model.specs.declared.change.Change.{Change}
 use Rattle.obj_model.specs.declared.change.Pool.{Pool}
 use Rattle.store_face.specs.Tables.{Table, changed_by}
-use Rattle.tier_outside.specs.Disk.{DiskMoment, IsImage, settled}
-use Rattle.tier_outside.specs.DiskMoments.{last, Now, Then}
+use Rattle.tier_outside.specs.Disk.{DiskMoment, IsImage, settled, RangeStands, IsSettled}
+use Rattle.tier_outside.specs.DiskMoments.{last, Now, Then, Leaves}
 use Rattle.tier_outside.proofs.DiskMoments.{since_weaker}
 use Rattle.gate_journal.specs.declared.journal.Journal.{Journal}
 use Rattle.gate_journal.specs.Journals.{Spells}
-use Rattle.gate_journal.specs.Stands.{RangeStands, StandsAs, HoldsWithOrWithout, Leaves, longer}
+use Rattle.gate_journal.specs.Stands.{StandsAs, HoldsWithOrWithout, longer}
 use Rattle.gate_journal.proofs.Records.{spells_frame}
 use Rattle.gate_journal.proofs.Walks.{stands_same}
 use Rattle.pool_map.specs.Pools.{PoolView}
@@ -19,7 +19,7 @@ use Rattle.rec_codec.specs.Spelling.{SpellsTxn}
 use Rattle.log_image.specs.Calls.{Held}
 use Rattle.log_image.specs.Fronts.{IsHeaded}
 use Rattle.log_image.specs.Images.{HoldsLog, head, made_by}
-use Rattle.log_image.specs.Standing.{IsLogJournal, IsSettled, LogStands}
+use Rattle.log_image.specs.Standing.{IsLogJournal, LogStands}
 use Rattle.log_image.proofs.Rebuilt.{txns_push, made_push}
 
 -- a log's journal is that of the whole disk

@@ -3,9 +3,8 @@ use Rattle.std.specs.Prelude.{◌≡◌, ℕ, ◌+◌, List, [], Option, Result,
 use Rattle.obj_model.specs.declared.change.Pool.{Pool}
 use Rattle.store_face.specs.declared.fault.StoreFault.{StoreFault}
 use Rattle.store_face.specs.declared.fault.StoreFault.TheVariants.{Disk, BadImage, NoSpace, Worn, NoMemory}
-use Rattle.tier_outside.specs.Disk.{DiskMoment}
+use Rattle.tier_outside.specs.Disk.{DiskMoment, RangeStands}
 use Rattle.tier_outside.specs.DiskMoments.{Now}
-use Rattle.gate_journal.specs.Stands.{RangeStands}
 use Rattle.gate_journal.specs.declared.journal.Journal.{Journal}
 use Rattle.pool_map.specs.Pools.{PoolView}
 use Rattle.log_image.specs.Images.{HoldsLog}

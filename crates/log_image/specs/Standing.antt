@@ -27,10 +27,6 @@ pub record LogStands (role : Pool) (pair : ℕ) (journal : Journal) (table : Tab
 abbrev pub first_journal : Journal
 first_journal = record { start = 0; next = 22; end = 2 ^ 40 }
 
--- all that the disk reads as is settled
-abbrev pub IsSettled : DiskMoment → Type 0
-IsSettled d = d ≡ settled d.content
-
 -- what a stop leaves while a blank disk is formatted: it is still blank, or holds a log without transactions
 abbrev pub BlankOrNew : Pool → ℕ → List ℕ → Type 0
 BlankOrNew role pair image = IsBlank role pair image ⊎ HoldsLog role pair image no_txns

@@ -2,9 +2,8 @@
 use Rattle.std.specs.Prelude.{◌≡◌, ℕ, ◌<◌, ◌^◌, Bool, ◌&&◌, List, [], ◌∷◌, length, take, drop, slice_index, bytes_eq, codes}
 use Rattle.byteorder.specs.Endian.{big_bytes}
 use Rattle.obj_model.specs.declared.change.Pool.{Pool}
-use Rattle.tier_outside.specs.Disk.{DiskMoment}
+use Rattle.tier_outside.specs.Disk.{DiskMoment, IsSettled}
 use Rattle.log_image.specs.Images.{rest, role_byte}
-use Rattle.log_image.specs.Standing.{IsSettled}
 
 -- these bytes stand at this place
 abbrev pub stands : ℕ → List ℕ → List ℕ → Bool

@@ -1,4 +1,5 @@
 -- What a commit leaves of the store, from what the journal's append leaves of its disk.
+use Rattle.tier_outside.specs.Moments.{told}
 use Rattle.std.specs.Prelude.{◌≡◌, ◌⊎◌, ◌≤◌, ◌<◌, ◌+◌, ◌*◌, ◌^◌, ℕ, Bool, true, false, List, [], ◌∷◌, ◌++◌, length, Option, Some, None, Ok, Err, refl}
 use Rattle.std.specs.List.{AllByRecursion, flat_map}
 use Rattle.std.proofs.Common.{◌∙◌, sym, subst, ap, arith, inl, inr}
@@ -12,10 +13,10 @@ use Rattle.obj_model.specs.declared.change.Change.TheVariants.{Put, Remove}
 use Rattle.obj_model.specs.declared.change.Pool.{Pool}
 use Rattle.tier_outside.specs.Causes.{Rose}
 use Rattle.tier_outside.specs.Disk.{DiskMoment, EachImage}
-use Rattle.tier_outside.specs.DiskMoments.{last, Now, Then}
+use Rattle.tier_outside.specs.DiskMoments.{last, Now, Then, Leaves}
 use Rattle.tier_outside.proofs.DiskMoments.{now_since, now_weaker, since_weaker}
 use Rattle.gate_journal.specs.declared.journal.Journal.{Journal}
-use Rattle.gate_journal.specs.Stands.{Leaves, Standing, StandsAs, HoldsWithOrWithout, longer}
+use Rattle.gate_journal.specs.Stands.{Standing, StandsAs, HoldsWithOrWithout, longer}
 use Rattle.pool_map.specs.Pools.{PoolView, at_rest}
 use Rattle.store_face.specs.declared.fault.StoreFault.TheVariants.{Disk}
 use Rattle.store_face.specs.Tables.{Table, changed_by}
@@ -27,7 +28,7 @@ use Rattle.log_image.specs.Images.{HoldsLog, head}
 use Rattle.log_image.specs.Standing.{IsLogJournal, LogStands}
 use Rattle.log_store.specs.Commits.{WithOrWithout, need}
 use Rattle.log_store.specs.Inner.{IsWhole}
-use Rattle.log_store.specs.Views.{HoldsSide, HoldsSides, LogView, store_of, told}
+use Rattle.log_store.specs.Views.{HoldsSide, HoldsSides, LogView, store_of}
 use Rattle.log_image.proofs.Stands.{append_stands, longer_holds, stands_holds}
 
 -- ---- how long the spelling of a transaction is

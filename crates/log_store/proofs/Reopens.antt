@@ -1,14 +1,14 @@
 -- What a store is after it was opened anew.
+use Rattle.tier_outside.specs.Moments.{told}
 use Rattle.std.specs.Prelude.{◌≡◌, ◌⊎◌, ◌≤◌, ◌^◌, ℕ, Bool, true, false, List, [], ◌∷◌, ◌++◌, Option, Some, None, Ok, Err, refl}
 use Rattle.std.proofs.Common.{◌∙◌, sym, subst, ap, inl, inr}
 use Rattle.std.proofs.lemmas.List.{append-nil}
 use Rattle.obj_model.specs.declared.change.Pool.{Pool}
 use Rattle.tier_outside.specs.Causes.{Rose}
 use Rattle.tier_outside.specs.Disk.{DiskMoment, IsImage}
-use Rattle.tier_outside.specs.DiskMoments.{last, grown, Now}
+use Rattle.tier_outside.specs.DiskMoments.{last, grown, Now, Leaves, SomeImage}
 use Rattle.tier_outside.proofs.DiskMoments.{now_since, since_weaker}
 use Rattle.gate_journal.specs.declared.journal.Journal.{Journal}
-use Rattle.gate_journal.specs.Stands.{Leaves}
 use Rattle.pool_map.specs.Pools.{PoolView}
 use Rattle.store_face.specs.declared.fault.StoreFault.{StoreFault}
 use Rattle.store_face.specs.declared.fault.StoreFault.TheVariants as fault
@@ -20,8 +20,8 @@ use Rattle.log_image.specs.Images.{HoldsLog, Log}
 use Rattle.log_image.specs.Standing.{IsLogJournal, LogStands}
 use Rattle.log_image.proofs.LogLaws.{one_log}
 use Rattle.log_store.specs.Inner.{IsWhole}
-use Rattle.log_store.specs.Opens.{Left, NotReread}
-use Rattle.log_store.specs.Views.{HoldsSide, HoldsSides, LogView, told}
+use Rattle.log_store.specs.Opens.{NotReread}
+use Rattle.log_store.specs.Views.{HoldsSide, HoldsSides, LogView}
 use Rattle.log_store.proofs.Commits.{last_side, stands_sides, told_grown, view}
 use Rattle.log_store.proofs.Opens.{left_weaker}
 
@@ -80,12 +80,12 @@ one_of role pair image s t used log (inr after) =
 
 -- the map that was read
 among_one : (role : Pool) (pair : ℕ) (a b : Option (List DiskMoment)) (past past2 : List Sides) (t : Table) (used : ℕ) (live live2 : Bool) (f f2 : ℕ) → Leaves a b IsImage
-    → past2 ≡ past ++ one_map t ∷ [] → HoldsSides role pair a (store.last past) → Left a (λ image. HoldsLog role pair image (record { table = t; used = used }))
+    → past2 ≡ past ++ one_map t ∷ [] → HoldsSides role pair a (store.last past) → SomeImage a (λ image. HoldsLog role pair image (record { table = t; used = used }))
     → Among (record { moments = told a past; live = live; faults = f }) (record { moments = told b past2; live = live2; faults = f2 })
 among_one role pair a b past past2 t used live live2 f f2 left pushed holds read =
     record { more = one_map t ∷ []; grew = told_grown a b IsImage past past2 (one_map t ∷ []) left pushed; each = each a holds read }
   where
-    each : (a : Option (List DiskMoment)) → HoldsSides role pair a (store.last past) → Left a (λ image. HoldsLog role pair image (record { table = t; used = used }))
+    each : (a : Option (List DiskMoment)) → HoldsSides role pair a (store.last past) → SomeImage a (λ image. HoldsLog role pair image (record { table = t; used = used }))
         → store.Now (record { moments = told a past; live = live; faults = f }) (λ was. store.EachMoment (one_map t ∷ []) (IsOneOf was.before was.after))
     each None holds read = tt
     each (Some ds) holds read =
@@ -94,7 +94,7 @@ among_one role pair a b past past2 t used live live2 f f2 left pushed holds read
 
 pub reopened : (old : StoreView) (role : Pool) (pair : ℕ) (a b : Option (List DiskMoment)) (past past2 : List Sides) (t : Table) (used : ℕ) (live : Bool) (f f2 : ℕ)
     → record { moments = told a past; live = live; faults = f } ≡ old → Leaves a b IsImage → past2 ≡ past ++ one_map t ∷ [] → HoldsSides role pair a (store.last past)
-    → Left a (λ image. HoldsLog role pair image (record { table = t; used = used })) → f ≤ f2
+    → SomeImage a (λ image. HoldsLog role pair image (record { table = t; used = used })) → f ≤ f2
     → Reopened old (record { moments = told b past2; live = true; faults = f2 }) (Ok tt)
 reopened old role pair a b past past2 t used live f f2 is left pushed holds read later =
     subst (λ (v : StoreView). Reopened v (record { moments = told b past2; live = true; faults = f2 }) (Ok tt)) is
@@ -108,7 +108,7 @@ reopened old role pair a b past past2 t used live f f2 is left pushed holds read
     now (Some es) = ap (λ (s : Sides). s.before) here ∙ sym (ap (λ (s : Sides). s.after) here)
 
 -- where the disk tells, what it left was a log
-always_log : (role : Pool) (pair : ℕ) (a : Option (List DiskMoment)) (s : Sides) → HoldsSides role pair a s → Left a (λ image. (log : Log) → ¬ HoldsLog role pair image log) → a ≡ None
+always_log : (role : Pool) (pair : ℕ) (a : Option (List DiskMoment)) (s : Sides) → HoldsSides role pair a s → SomeImage a (λ image. (log : Log) → ¬ HoldsLog role pair image log) → a ≡ None
 always_log role pair None s holds none = refl
 always_log role pair (Some ds) s holds none = absurd (elim (holds none.0 none.1) [
   | inl before ↦ none.2 (record { table = s.before; used = before.0 }) before.1
@@ -133,15 +133,15 @@ not_reopened old why role pair a b past past2 live f f2 is left same holds ends 
     cases (fault.Worn limit) ends = absurd ends
 
 pub reopened_read : (v : LogView) (a b : Option (List DiskMoment)) (faults f2 : ℕ) (live live2 : Bool) (role : Pool) (pair room used used2 : ℕ) (past past2 : List Sides) (t : Table)
-    → view a faults live role pair room used past ≡ v → past2 ≡ past ++ one_map t ∷ [] → Left a (λ image. HoldsLog role pair image (record { table = t; used = used2 }))
-    → Left v.disk (λ image. store.Now (record { moments = told b past2; live = live2; faults = f2 }) (λ s. HoldsLog v.role v.pair image (record { table = s.before; used = used2 })))
+    → view a faults live role pair room used past ≡ v → past2 ≡ past ++ one_map t ∷ [] → SomeImage a (λ image. HoldsLog role pair image (record { table = t; used = used2 }))
+    → SomeImage v.disk (λ image. store.Now (record { moments = told b past2; live = live2; faults = f2 }) (λ s. HoldsLog v.role v.pair image (record { table = s.before; used = used2 })))
 reopened_read v a b faults f2 live live2 role pair room used used2 past past2 t is pushed read =
-    subst (λ (w : LogView). Left w.disk (λ image. store.Now (record { moments = told b past2; live = live2; faults = f2 }) (λ s. HoldsLog w.role w.pair image (record { table = s.before; used = used2 })))) is (now b)
+    subst (λ (w : LogView). SomeImage w.disk (λ image. store.Now (record { moments = told b past2; live = live2; faults = f2 }) (λ s. HoldsLog w.role w.pair image (record { table = s.before; used = used2 })))) is (now b)
   where
     here : store.last past2 ≡ one_map t
     here = ap store.last pushed ∙ last_side past (one_map t)
 
-    now : (b : Option (List DiskMoment)) → Left a (λ image. store.Now (record { moments = told b past2; live = live2; faults = f2 }) (λ s. HoldsLog role pair image (record { table = s.before; used = used2 })))
+    now : (b : Option (List DiskMoment)) → SomeImage a (λ image. store.Now (record { moments = told b past2; live = live2; faults = f2 }) (λ s. HoldsLog role pair image (record { table = s.before; used = used2 })))
     now None = left_weaker a (λ image. HoldsLog role pair image (record { table = t; used = used2 })) (λ image. Unit {0}) (λ image is. tt) read
     now (Some es) =
         left_weaker a (λ image. HoldsLog role pair image (record { table = t; used = used2 })) (λ image. HoldsLog role pair image (record { table = (store.last past2).before; used = used2 }))

@@ -5,7 +5,7 @@ use Rattle.std.specs.Coded.{Coded, code_by, coded×, coded_ℕ, coded_list, code
 use Rattle.obj_model.specs.declared.change.Pool.{Pool}
 use Rattle.obj_model.specs.contracts.change.Pool as pool
 use Rattle.tier_outside.specs.Disk.{DiskMoment, EachImage}
-use Rattle.tier_outside.specs.DiskMoments.{Now}
+use Rattle.tier_outside.specs.DiskMoments.{Now, coded_moment}
 use Rattle.store_face.specs.Tables.{Table}
 use Rattle.store_face.specs.Views.{Sides, StoreView}
 use Rattle.log_image.specs.Images.{HoldsMap}
@@ -26,11 +26,6 @@ pub record LogView : Type 0 where
 abbrev pub store_of : LogView → StoreView
 store_of v = record { moments = v.moments; live = v.live; faults = v.faults }
 
--- what is told where a disk tells its content
-abbrev pub told : {T : Type 0} → Option (List DiskMoment) → T → Option T
-told None x = None
-told (Some ds) x = Some x
-
 -- an image holds the one map or the other
 abbrev pub HoldsSide : Pool → ℕ → Sides → List ℕ → Type 0
 HoldsSide role pair s image = HoldsMap role pair image s.before ⊎ HoldsMap role pair image s.after
@@ -42,13 +37,6 @@ HoldsSides role pair moments s = Now moments (λ d. EachImage d (HoldsSide role 
 -- how a store is written down as a value of contracts
 abbrev coded_table : Coded Table
 coded_table = fin.code (coded_list coded_ℕ) (coded_list coded_ℕ)
-
-abbrev coded_moment : Coded DiskMoment
-coded_moment =
-    code_by ((List ℕ × List ℕ) × (List (ℕ × ℕ) × (ℕ × ℕ)))
-    (coded× (coded× (coded_list coded_ℕ) (coded_list coded_ℕ)) (coded× (coded_list (coded× coded_ℕ coded_ℕ)) (coded× coded_ℕ coded_ℕ)))
-    (λ d. ((d.content, d.stable), (d.touched, (d.low, d.high))))
-    (λ c. record { content = c.0.0; stable = c.0.1; touched = c.1.0; low = c.1.1.0; high = c.1.1.1 }) (λ _. refl)
 
 abbrev coded_sides : Coded Sides
 coded_sides = code_by (Table × Table) (coded× coded_table coded_table) (λ s. (s.before, s.after)) (λ c. record { before = c.0; after = c.1 }) (λ _. refl)

@@ -4,7 +4,7 @@ use Rattle.std.proofs.Common.{sym, subst}
 use Rattle.tier_outside.specs.Disk.{DiskMoment, EachImage, IsImage, Syncs, settled}
 use Rattle.tier_outside.proofs.DiskImages.{settled_only}
 use Rattle.tier_outside.proofs.Moments as moments
-use Rattle.tier_outside.specs.DiskMoments.{last, Now, Then, grown, Goes, EachMoment, Since}
+use Rattle.tier_outside.specs.DiskMoments.{last, Now, Then, Goes, Since}
 
 -- the newest moment is now
 pub last_push : (ds : List DiskMoment) (d : DiskMoment) → last (ds ++ d ∷ []) ≡ d

@@ -16,6 +16,10 @@ pub record DiskMoment : Type 0 where
 abbrev pub settled : List ℕ → DiskMoment
 settled bytes = record { content = bytes; stable = bytes; touched = []; low = length bytes; high = length bytes }
 
+-- all that the disk reads as is settled
+abbrev pub IsSettled : DiskMoment → Type 0
+IsSettled d = d ≡ settled d.content
+
 -- one of the ranges holds the byte
 abbrev pub is_touched : List (ℕ × ℕ) → ℕ → Bool
 is_touched [] i = false
@@ -27,6 +31,12 @@ pub record IsImage (d : DiskMoment) (image : List ℕ) : Type 0 where
   pub no_shorter : d.low ≤ length image
   pub no_longer : length image ≤ d.high
   pub kept : (i : ℕ) → i < d.low → is_touched d.touched i ≡ false → slice_index image i ≡ slice_index d.stable i
+
+-- the bytes of a range are settled: no write since began among them, and the disk was never shorter
+pub record RangeStands (from to : ℕ) (d : DiskMoment) : Type 0 where
+  pub there : to ≤ length d.stable
+  pub within : to ≤ d.low
+  pub untouched : (i : ℕ) → from ≤ i → i < to → is_touched d.touched i ≡ false
 
 -- the first bytes are settled: no write since began among them, and the disk was never shorter
 pub record FrontStands (count : ℕ) (d : DiskMoment) : Type 0 where
@@ -61,6 +71,10 @@ resized size old = take size old ++ replicate (size - length old) 0
 -- a write of so many bytes began, after which the disk reads as `now`
 abbrev pub touch : ℕ → ℕ → List ℕ → DiskMoment → DiskMoment
 touch off count now d = record { content = now; stable = d.stable; touched = d.touched ++ (off, off + count) ∷ []; low = d.low; high = max d.high (reach off count) }
+
+-- a stop might leave this image in one write to this range, and nothing outside of it
+abbrev pub StopsIn : ℕ → ℕ → DiskMoment → List ℕ → Type 0
+StopsIn off count d image = IsImage (touch off count d.content d) image
 
 -- a cut began, after which the disk reads as `now`
 abbrev pub trim : ℕ → List ℕ → DiskMoment → DiskMoment

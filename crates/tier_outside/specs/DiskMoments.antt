@@ -1,5 +1,5 @@
 -- The clock of a disk, and what its calls leave from moment to moment.
-use Rattle.std.specs.Prelude.{◌≡◌, ℕ, List, [], Option, refl}
+use Rattle.std.specs.Prelude.{ℕ, List, [], Option, refl}
 use Rattle.std.specs.Coded.{Coded, code_by, coded×, coded_ℕ, coded_list}
 use Rattle.tier_outside.specs.Disk.{DiskMoment, EachImage, IsImage, settled}
 use Rattle.tier_outside.specs.Moments as moments

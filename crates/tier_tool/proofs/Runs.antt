@@ -1,4 +1,5 @@
 -- How a run on the base ends, from how it was opened, what was told, and how it was closed.
+use Rattle.tier_outside.specs.Moments.{told}
 use Rattle.std.proofs.Common.{◌≡◌, inl, inr, ◌≤◌, ℕ, List, [], ◌∷◌, ◌++◌, Option, Some, None, refl, sym, ap, subst, ◌∙◌}
 use Rattle.obj_model.specs.declared.change.Pool.TheVariants.{Base}
 use Rattle.obj_ops.specs.Stores.{Store}
@@ -6,16 +7,15 @@ use Rattle.script_lang.specs.declared.line.Numbered.{Numbered}
 use Rattle.script_lang.specs.Scripts.{IsScript}
 use Rattle.tier_outside.specs.Causes.{Rose}
 use Rattle.tier_outside.specs.Disk.{DiskMoment, EachImage, IsImage}
-use Rattle.tier_outside.specs.DiskMoments.{Now, last, grown}
+use Rattle.tier_outside.specs.DiskMoments.{Now, last, grown, Leaves, SomeImage}
 use Rattle.tier_outside.proofs.DiskMoments.{now_since, now_weaker}
-use Rattle.gate_journal.specs.Stands.{Leaves}
 use Rattle.store_face.specs.Tables.{Table}
 use Rattle.store_face.specs.Views.{Sides, one_map}
 use Rattle.store_face.specs.Views as store
 use Rattle.log_image.specs.Images.{HoldsMap, Log}
 use Rattle.log_store.specs.Commits.{SameStore}
-use Rattle.log_store.specs.Opens.{KeepsRefused, Left, Opened, OpeningStops, OpensAs, Refused}
-use Rattle.log_store.specs.Views.{HoldsSide, HoldsSides, LogView, store_of, told}
+use Rattle.log_store.specs.Opens.{KeepsRefused, Opened, OpeningStops, OpensAs, Refused}
+use Rattle.log_store.specs.Views.{HoldsSide, HoldsSides, LogView, store_of}
 use Rattle.log_store.specs.declared.fault.AttachFault.{AttachFault}
 use Rattle.log_store.specs.declared.fault.AttachFault.TheVariants as fault
 use Rattle.tier_tool.specs.Bases.{GoesOn, StandsFor}
@@ -127,8 +127,8 @@ opened_runs lines room old base v w disk_rose whole_disk sink_rose put status we
     Says : ℕ → Table → Type 0
     Says limit t = (st : Store) → StandsFor t st → SaysFrom t limit (standing st v.used) lines tells.said tells.left tells.ending (store_of w)
 
-    from : (a : DiskMoments) → v.disk ≡ grown a stops.more → Left a (OpensAs Base 257 (record { table = opened.table; used = v.used }))
-        → Left a (λ image. (log : Log) × OpensAs Base 257 log image
+    from : (a : DiskMoments) → v.disk ≡ grown a stops.more → SomeImage a (OpensAs Base 257 (record { table = opened.table; used = v.used }))
+        → SomeImage a (λ image. (log : Log) × OpensAs Base 257 log image
         × ((st : Store) → StandsFor log.table st → SaidFrom log.table room (standing st log.used) lines tells.said tells.left tells.ending base))
     from None grew left = tt
     from (Some ds) grew left =

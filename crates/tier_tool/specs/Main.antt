@@ -7,12 +7,12 @@ use Rattle.script_lang.specs.Scripts.{IsScript, IsFault}
 use Rattle.script_lang.specs.declared.line.Numbered.{Numbered}
 use Rattle.script_lang.specs.declared.read.Cause.{Cause}
 use Rattle.tier_outside.specs.Disk.{DiskMoment, EachImage, IsImage}
-use Rattle.tier_outside.specs.DiskMoments.{Now}
+use Rattle.tier_outside.specs.DiskMoments.{Now, SomeImage}
 use Rattle.tier_outside.specs.Streams.{Loses, Gains}
 use Rattle.store_face.specs.Tables.{Table}
 use Rattle.log_image.specs.Fronts.{IsBad, IsOf}
 use Rattle.log_image.specs.Images.{HoldsMap, Log}
-use Rattle.log_store.specs.Opens.{Left, OpeningStops, OpensAs}
+use Rattle.log_store.specs.Opens.{OpeningStops, OpensAs}
 use Rattle.tier_tool.specs.declared.pair.DiskPair.{DiskPair}
 use Rattle.tier_tool.specs.declared.reading.Unread.{Unread}
 use Rattle.tier_tool.specs.declared.reading.Unread.TheVariants.{Fault, NoMemory}
@@ -134,8 +134,8 @@ pub record BaseFailed (disk_rose : Type 0) (base_old base_new : Option (List Dis
 -- pair. The disk stays as it was.
 pub record RefusesImage (sink_rose : Type 0) (base_old base_new : Option (List DiskMoment)) (put : List ℕ) (status : ℕ) : Type 0 where
   pub why : List ℕ
-  pub cause : ((at : ℕ) × (why ≡ bad_image_text at) × Left base_old (λ image. IsBad Base 257 image at))
-      ⊎ ((other : ℕ) × (why ≡ wrong_pair_text other 257) × (other ≢ 257) × Left base_old (IsOf Base other))
+  pub cause : ((at : ℕ) × (why ≡ bad_image_text at) × SomeImage base_old (λ image. IsBad Base 257 image at))
+      ⊎ ((other : ℕ) × (why ≡ wrong_pair_text other 257) × (other ≢ 257) × SomeImage base_old (IsOf Base other))
   pub base_kept : BackLeaves base_old base_new IsImage
   pub told : MakesAndTells (why ∷ []) 5 sink_rose put status
 
@@ -154,7 +154,7 @@ pub record CarriesLines (lines : List Numbered) (room : ℕ) (disk_rose sink_ros
   pub left : List Numbered
   pub ending : Ending
   pub ends : EndsAs disk_rose sink_rose said left ending put status
-  pub from : Left base_old (λ image. (log : Log) × OpensAs Base 257 log image
+  pub from : SomeImage base_old (λ image. (log : Log) × OpensAs Base 257 log image
       × ((store : Store) → StandsFor log.table store → SaidFrom log.table room (standing store log.used) lines said left ending base_new))
 
 -- the script is accepted, and its lines are carried out
