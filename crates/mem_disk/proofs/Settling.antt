@@ -8,7 +8,8 @@ use Rattle.tier_outside.specs.Disk.{DiskMoment, IsImage, Restarts, is_touched, r
 use Rattle.tier_outside.proofs.DiskImages.{length_resized}
 use Rattle.mem_disk.specs.declared.pick.Pick.{Pick}
 use Rattle.mem_disk.specs.declared.pick.Pick.TheVariants.{Old, New, Mixed, Junk}
-use Rattle.mem_disk.specs.Picks.{chosen, picked_size, Picked, ChosenIn, CopiedIn, is_between, is_unsettled, SettledBelow}
+use Rattle.mem_disk.specs.Picks.{chosen, picked_size, Picked, is_unsettled}
+use Rattle.mem_disk.specs.Steps.Choosing.{ChosenIn, CopiedIn, is_between, SettledBelow}
 use Rattle.mem_disk.specs.Memory.{IsSound}
 use Rattle.mem_disk.proofs.Chosen.{chosen_again, chosen_same, copied_again, copied_same}
 

@@ -1,6 +1,7 @@
 //! What a stop leaves of bytes that are not settled.
 ghost use Rattle.std.specs.Prelude.{◌≡◌, ◌==◌, length, if◌then◌else◌};
-ghost use Rattle.mem_disk.specs.Picks.{chosen, ChosenIn, is_between, is_unsettled, picked_size};
+ghost use Rattle.mem_disk.specs.Picks.{chosen, is_unsettled, picked_size};
+ghost use Rattle.mem_disk.specs.Steps.Choosing.{ChosenIn, is_between};
 ghost use Rattle.tier_outside.specs.Disk.{is_touched};
 
 /// What a restart leaves of the bytes that are not settled. The size is the settled one for `Old`, and else the size that the disk had.

@@ -1,8 +1,9 @@
 //! The bytes of a disk in memory, and what of them is not settled.
 ghost use Rattle.std.specs.Prelude.{◌≡◌, ◌≤◌, ◌<◌, ◌+◌, ◌-◌, ◌^◌, length, take, OnOk, OnErr, vec_len, vec_capacity, false};
 ghost use Rattle.tier_outside.specs.Disk.{IsImage, reach, filled, replaced, written, resized, touch, trim, settled, is_touched};
-ghost use Rattle.mem_disk.specs.Memory.{moment_of};
-ghost use Rattle.mem_disk.specs.Picks.{CopiedIn, Picked, SettledBelow, is_between, is_unsettled};
+ghost use Rattle.mem_disk.specs.Steps.Moments.{moment_of};
+ghost use Rattle.mem_disk.specs.Picks.{Picked, is_unsettled};
+ghost use Rattle.mem_disk.specs.Steps.Choosing.{CopiedIn, SettledBelow, is_between};
 
 use crate::pick::{Pick, choose_unsettled, size_of};
 use std::alloc::AllocError;

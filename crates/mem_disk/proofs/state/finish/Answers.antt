@@ -1,6 +1,6 @@
 use Rattle.std.proofs.Common.{rules, ◌∙◌}
 use Rattle.std.proofs.lemmas.List.{with_items_is}
-use Rattle.mem_disk.specs.Memory.{moment_of}
+use Rattle.mem_disk.specs.Steps.Moments.{moment_of}
 use Rattle.mem_disk.proofs.Settling.{all_copied, same_moment}
 use Rattle.mem_disk.proofs.state.finish.Goals as goal
 

@@ -1,8 +1,9 @@
 use Rattle.std.proofs.Common.{rules, ap, sym, subst, ◌∙◌, ◌≡◌}
 use Rattle.std.proofs.lemmas.List.{with_items_is}
 use Rattle.tier_outside.specs.Disk.{settled}
-use Rattle.mem_disk.specs.Memory.{moment_of}
-use Rattle.mem_disk.specs.Picks.{ChosenIn, is_unsettled}
+use Rattle.mem_disk.specs.Steps.Moments.{moment_of}
+use Rattle.mem_disk.specs.Picks.{is_unsettled}
+use Rattle.mem_disk.specs.Steps.Choosing.{ChosenIn}
 use Rattle.mem_disk.proofs.Settling.{picked_finish}
 use Rattle.mem_disk.proofs.state.restart.Goals as goal
 
