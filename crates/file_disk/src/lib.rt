@@ -11,6 +11,3 @@ mod lock;
 
 pub use file::FileDisk;
 pub use lock::Lock;
-
-#[cfg(test)]
-mod tests;

@@ -39,6 +39,13 @@ impl FogDisk {
         }
     }
 
+    /// The disk below.
+    pub fn into_inner(self) -> MemDisk
+        ensures { result ≡ self.inner }
+    {
+        self.inner
+    }
+
     // Counts a call, and tells whether it finds the other bytes.
     fn next_lies(&mut self) -> bool
         ensures counts { self.new ≡ fog_counted self.old }

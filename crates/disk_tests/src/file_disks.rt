@@ -1,5 +1,5 @@
 //! A file in the test's folder, by what the system's own rules for files say.
-use crate::FileDisk;
+use file_disk::FileDisk;
 use std::test::Fail;
 use tier_outside::Disk;
 

@@ -2,7 +2,7 @@
 ghost use Rattle.std.specs.Prelude.{◌≤◌, ◌^◌};
 
 use log_store::{AttachFault, LogStore};
-use mem_disk::{MemDisk, Pick};
+use mem_disk::{FogDisk, MemDisk, Pick};
 use obj_model::{Bytes, Pool};
 use rec_codec::read_txn;
 use std::alloc::Global;
@@ -19,6 +19,20 @@ pub const EMPTY: &[u8] = b"\x01\0\0\0\x11RTLOG001\x01\0\0\0\0\0\0\x01\x01\0";
 // One change: the key `k` gets a value of ten bytes.
 pub const PUT: &[u8] = b"\x01\x01\0\x01k\0\0\0\x0a0123456789";
 
+// A disk of these bytes that fails at the listed calls, and stops at a call.
+pub fn failing(
+    rt: &impl Abort,
+    alloc: Global,
+    bytes: &[u8],
+    fails: &[u64],
+    stop_at: Option<u64>,
+    pick: Pick,
+) -> Result<MemDisk, Fail> {
+    let bytes = Vec::from_slice(alloc, bytes)?;
+    let fails = Vec::from_slice(alloc, fails)?;
+    Ok(MemDisk::new(alloc, bytes, fails, stop_at, pick).expect(rt, "made"))
+}
+
 // A disk of these bytes that stops at a call.
 pub fn memory(
     rt: &impl Abort,
@@ -27,8 +41,19 @@ pub fn memory(
     stop_at: Option<u64>,
     pick: Pick,
 ) -> Result<MemDisk, Fail> {
-    let bytes = Vec::from_slice(alloc, bytes)?;
-    Ok(MemDisk::new(alloc, bytes, Vec::new(alloc), stop_at, pick).expect(rt, "made"))
+    failing(rt, alloc, bytes, &[], stop_at, pick)
+}
+
+// A disk that tells nothing, and reads as other bytes from a call on.
+pub fn fog(
+    rt: &impl Abort,
+    alloc: Global,
+    bytes: &[u8],
+    swap_at: Option<u64>,
+    with: &[u8],
+) -> Result<FogDisk, Fail> {
+    let with = Vec::from_slice(alloc, with)?;
+    Ok(FogDisk::new(memory(rt, alloc, bytes, None, Pick::Old)?, swap_at, with))
 }
 
 // The store of the cache that is opened with this room.

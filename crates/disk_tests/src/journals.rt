@@ -4,7 +4,8 @@ ghost use Rattle.tier_outside.specs.DiskMoments.{Now};
 ghost use Rattle.gate_journal.specs.Stands.{InRange, Standing};
 
 use gate_journal::{Journal, append, start, walk};
-use mem_disk::{MemDisk, Pick};
+use crate::tools::{failing, fog, memory, reads_as};
+use mem_disk::Pick;
 use std::alloc::Global;
 use std::process::Abort;
 use std::test::Fail;
@@ -15,19 +16,6 @@ const TEXTS: [&[u8]; 4] = [b"head", b"", b"ab", b"xyz"];
 
 // Their journal from offset 0 on.
 const IMAGE: &[u8] = b"\x01\0\0\0\x04head\x01\0\0\0\0\x01\0\0\0\x02ab\x01\0\0\0\x03xyz\0";
-
-fn memory(
-    rt: &impl Abort,
-    alloc: Global,
-    bytes: &[u8],
-    fails: &[u64],
-    stop_at: Option<u64>,
-    pick: Pick,
-) -> Result<MemDisk, Fail> {
-    let bytes = Vec::from_slice(alloc, bytes)?;
-    let fails = Vec::from_slice(alloc, fails)?;
-    Ok(MemDisk::new(alloc, bytes, fails, stop_at, pick).expect(rt, "made"))
-}
 
 // Appends the texts up to the first that is refused, and gives how many were appended.
 fn append_all<D: Disk>(alloc: Global, disk: &mut D, journal: &mut Journal, texts: &[&[u8]]) -> usize
@@ -77,16 +65,10 @@ fn store_and_find<D: Disk>(rt: &impl Abort, alloc: Global, disk: &mut D) -> (usi
     (told, find(rt, alloc, disk))
 }
 
-fn reads_as<D: Disk>(rt: &impl Abort, disk: &mut D, bytes: &[u8]) {
-    let mut buf = [0u8; 64];
-    let count = disk.read_at(0, &mut buf).expect(rt, "read");
-    assert_eq!(rt; buf.get(..count), Some(bytes));
-}
-
 #[test]
 fn a_walk_gives_what_was_appended(rt: HostRuntime) -> Result<(), Fail> {
     let alloc = rt.alloc();
-    let mut disk = memory(&rt, alloc, b"", &[], None, Pick::Old)?;
+    let mut disk = memory(&rt, alloc, b"", None, Pick::Old)?;
     assert_eq!(rt; store_and_find(&rt, alloc, &mut disk), (4, 4));
     reads_as(&rt, &mut disk, IMAGE);
     Ok(())
@@ -115,7 +97,7 @@ fn stop_at(
     pick: Pick,
     expected: (u8, u8),
 ) -> Result<(), Fail> {
-    let mut disk = memory(rt, alloc, b"", fails, stop, pick)?;
+    let mut disk = failing(rt, alloc, b"", fails, stop, pick)?;
     let (told, found) = store_and_find(rt, alloc, &mut disk);
     let digits = (expected.0 as usize, expected.1 as usize);
     assert_eq!(rt;
@@ -181,11 +163,40 @@ const DAMAGED: [(&[u8], u64, u64, Result<usize, u64>); 15] = [
 fn a_damaged_image_breaks_at_its_gate(rt: HostRuntime) -> Result<(), Fail> {
     let alloc = rt.alloc();
     for (bytes, at, end, expected) in DAMAGED {
-        let mut disk = memory(&rt, alloc, bytes, &[], None, Pick::Old)?;
+        let mut disk = memory(&rt, alloc, bytes, None, Pick::Old)?;
         assert_eq!(rt;
             count_or_gate(alloc, &mut disk, at, end),
             expected,
             "{bytes:?} from {at} to {end}"
+        );
+    }
+    Ok(())
+}
+
+// A journal of one record, on a disk that reads as other bytes from a call on; the walk asks for the size, for the head of the record, for
+// its payload and for the gate behind it. What is found: the number of payloads, or the gate that breaks it.
+const FOGGED: [(Option<u64>, &[u8], Result<usize, u64>); 7] = [
+    (None, b"", Ok(1)),
+    (Some(1), b"", Err(0)),
+    // A gate that is not there is no closed gate.
+    (Some(2), b"", Err(0)),
+    (Some(4), b"\x01\0\0\0\x02ab", Err(7)),
+    // A payload that reads short is no closed gate.
+    (Some(3), b"\x01\0\0\0\x02a", Err(0)),
+    // Other bytes that are a journal are read as they come.
+    (Some(3), b"\x01\0\0\0\x02xy\0", Ok(1)),
+    (Some(4), b"\x01\0\0\0\x02ab\x07", Ok(1)),
+];
+
+#[test]
+fn what_a_disk_that_lies_does_not_give_breaks_the_journal(rt: HostRuntime) -> Result<(), Fail> {
+    let alloc = rt.alloc();
+    for (swap_at, with, expected) in FOGGED {
+        let mut disk = fog(&rt, alloc, b"\x01\0\0\0\x02ab\0", swap_at, with)?;
+        assert_eq!(rt;
+            count_or_gate(alloc, &mut disk, 0, 10),
+            expected,
+            "{with:?} from {swap_at:?}"
         );
     }
     Ok(())
@@ -239,7 +250,7 @@ fn fill_up<D: Disk>(rt: &impl Abort, alloc: Global, disk: &mut D) {
 #[test]
 fn space_ends_where_the_gate_behind_does_not_fit(rt: HostRuntime) -> Result<(), Fail> {
     let alloc = rt.alloc();
-    let mut disk = memory(&rt, alloc, b"\xff\xff", &[], None, Pick::Old)?;
+    let mut disk = memory(&rt, alloc, b"\xff\xff", None, Pick::Old)?;
     fill_up(&rt, alloc, &mut disk);
     Ok(())
 }

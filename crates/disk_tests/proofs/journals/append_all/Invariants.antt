@@ -1,6 +1,6 @@
 use Rattle.tier_outside.specs.DiskMoments.{Now}
 use Rattle.gate_journal.specs.Stands.{InRange, Standing}
-use Rattle.journal_tests.proofs.tests.append_all.Given as goal
+use Rattle.disk_tests.proofs.journals.append_all.Given as goal
 
 -- the journal can be appended to
 abbrev pub invariant-loop-text : goal.invariant-loop-text

@@ -1,26 +1,11 @@
 //! What the first bytes of disks say, and what formatting leaves, over the disk in memory.
-use crate::{Front, finish, format, look};
-use mem_disk::{MemDisk, Pick};
+use crate::tools::{EMPTY, memory, reads_as};
+use log_image::{Front, finish, format, look};
+use mem_disk::Pick;
 use obj_model::Pool;
-use std::alloc::Global;
 use std::process::Abort;
 use std::test::Fail;
 use tier_outside::Disk;
-
-// A disk of the cache of pair 257 without transactions.
-const NEW: &[u8] = b"\x01\0\0\0\x11RTLOG001\x01\0\0\0\0\0\0\x01\x01\0";
-
-fn memory(
-    rt: &impl Abort,
-    alloc: Global,
-    bytes: &[u8],
-    stop_at: Option<u64>,
-    pick: Pick,
-) -> Result<MemDisk, Fail> {
-    let bytes = Vec::from_slice(alloc, bytes)?;
-    let fails = Vec::new(alloc);
-    Ok(MemDisk::new(alloc, bytes, fails, stop_at, pick).expect(rt, "made"))
-}
 
 // Restarts a disk, and formats it or ends its formatting where it is empty; was that done, or was there nothing to do?
 fn open<D: Disk>(rt: &impl Abort, disk: &mut D, pair: u64) -> bool {
@@ -38,12 +23,6 @@ fn open<D: Disk>(rt: &impl Abort, disk: &mut D, pair: u64) -> bool {
     }
 }
 
-fn reads_as<D: Disk>(rt: &impl Abort, disk: &mut D, bytes: &[u8]) {
-    let mut buf = [0u8; 64];
-    let count = disk.read_at(0, &mut buf).expect(rt, "read");
-    assert_eq!(rt; buf.get(..count), Some(bytes));
-}
-
 #[test]
 fn an_empty_disk_becomes_a_log(rt: HostRuntime) -> Result<(), Fail> {
     let alloc = rt.alloc();
@@ -52,7 +31,7 @@ fn an_empty_disk_becomes_a_log(rt: HostRuntime) -> Result<(), Fail> {
     for bytes in empty {
         let mut disk = memory(&rt, alloc, bytes, None, Pick::Old)?;
         assert!(rt; open(&rt, &mut disk, 257));
-        reads_as(&rt, &mut disk, NEW);
+        reads_as(&rt, &mut disk, EMPTY);
         assert_eq!(rt;
             look(&mut disk, Pool::Cache),
             Ok(Front::Headed { pair: 257 })
@@ -84,7 +63,7 @@ fn a_stop_at_each_call_leaves_it_empty_or_whole(rt: HostRuntime) -> Result<(), F
             assert_eq!(rt; open(&rt, &mut disk, 257), stop == 9);
             assert!(rt; open(&rt, &mut disk, 257));
             assert!(rt; open(&rt, &mut disk, 257));
-            reads_as(&rt, &mut disk, NEW);
+            reads_as(&rt, &mut disk, EMPTY);
         }
     }
     Ok(())
@@ -109,7 +88,7 @@ fn a_bad_head_is_told_at_its_place(rt: HostRuntime) -> Result<(), Fail> {
         assert!(rt; !open(&rt, &mut disk, 257));
         reads_as(&rt, &mut disk, bytes);
     }
-    let mut base = memory(&rt, alloc, NEW, None, Pick::Old)?;
+    let mut base = memory(&rt, alloc, EMPTY, None, Pick::Old)?;
     assert_eq!(rt; look(&mut base, Pool::Base), Ok(Front::Bad { at: 13 }));
     Ok(())
 }
