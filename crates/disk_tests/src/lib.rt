@@ -1,4 +1,4 @@
-//! Disks, journals and stores over logs, run: what disks in memory and files do, what a walk and an opening find after a stop or a fault at
+//! Sources and sinks, disks, journals and stores over logs, run: what disks in memory and files do, what a walk and an opening find after a stop or a fault at
 //! each call, in images that are damaged, and on disks that lie. The promises themselves are proved over any disk.
 #![tactic(auto)]
 
@@ -18,5 +18,7 @@ mod lying;
 mod mem_disks;
 #[cfg(test)]
 mod stops;
+#[cfg(test)]
+mod streams;
 #[cfg(test)]
 mod tools;

@@ -45,11 +45,6 @@ pub grown_twice : {M : Type 0} (old : Option (List M)) (more again : List M) →
 grown_twice None more again = refl
 grown_twice (Some ms) more again = ap Some (append_assoc ms more again)
 
-pub grown_cancel : {M : Type 0} (a : Option (List M)) (ms more again : List M) → a ≡ Some ms → grown a more ≡ grown a again → more ≡ again
-grown_cancel None ms more again some same = cc
-grown_cancel {M} (Some xs) ms more again some same =
-    let lists : xs ++ more ≡ xs ++ again = cc in append_cancel_left xs more again lists
-
 pub each_both : {M : Type 0} (ms more : List M) (P : M → Type 0) → Each ms P → Each more P → Each (ms ++ more) P
 each_both [] more P left right = right
 each_both (m ∷ ms) more P left right = (left.0, each_both ms more P left.1 right)
@@ -57,10 +52,6 @@ each_both (m ∷ ms) more P left right = (left.0, each_both ms more P left.1 rig
 pub each_weaker : {M : Type 0} (ms : List M) (P Q : M → Type 0) → ((m : M) → P m → Q m) → Each ms P → Each ms Q
 each_weaker [] P Q weaker each = tt
 each_weaker (m ∷ ms) P Q weaker each = (weaker m each.0, each_weaker ms P Q weaker each.1)
-
-pub each_two : {M : Type 0} (ms : List M) (P Q R : M → Type 0) → ((m : M) → P m → Q m → R m) → Each ms P → Each ms Q → Each ms R
-each_two [] P Q R both one two = tt
-each_two (m ∷ ms) P Q R both one two = (both m one.0 two.0, each_two ms P Q R both one.1 two.1)
 
 -- ---- each moment since
 
@@ -93,14 +84,6 @@ since_call start step None b P (inr went) follows = record { more = []; grew = w
 since_call start step (Some ms) b P (inr went) follows =
     record { more = went.0 ∷ []; grew = went.1; each = (follows went.0 went.2, tt) }
 
--- two promises hold together
-pub since_two : {M : Type 0} (a b : Option (List M)) (P Q R : M → Type 0) → ((m : M) → P m → Q m → R m)
-    → Since a b P → Since a b Q → Since a b R
-since_two None b P Q R both one two = record { more = []; grew = one.grew; each = tt }
-since_two (Some ms) b P Q R both one two =
-    let same = grown_cancel (Some ms) ms one.more two.more refl (sym one.grew ∙ two.grew) in
-    record { more = one.more; grew = one.grew; each = each_two one.more P Q R both one.each (subst (λ more. Each more Q) (sym same) two.each) }
-
 -- what the moment now had and each since has, the moment now has
 pub now_since : {M : Type 0} (start : M) (a b : Option (List M)) (P : M → Type 0) → Now start a P → Since a b P → Now start b P
 now_since start None b P was since = now_same start None b P (sym since.grew) tt
@@ -109,15 +92,6 @@ now_since start (Some ms) b P was since = now_same start (Some (ms ++ since.more
     at : (more : List _) → Each more P → P (last start (ms ++ more))
     at [] each = subst (λ xs. P (last start xs)) (sym (append-nil ms)) was
     at (m ∷ more) each = subst P (sym (last_behind start ms m more)) (last_each m more P each.0 each.1)
-
--- the moment after a call: it is that before, or one that follows by the step
-pub now_call : {M : Type 0} (start : M) (step : M → M → Type 0) (a b : Option (List M)) (P Q : M → Type 0)
-    → Goes start step a b → Now start a P → ((m : M) → P m → Q m) → ((m n : M) → P m → step m n → Q n) → Now start b Q
-now_call start step a b P Q (inl same) was stays follows = now_same start a b Q (sym same) (now_weaker start a P Q stays was)
-now_call start step None b P Q (inr went) was stays follows = now_same start None b Q (sym went.1) tt
-now_call start step (Some ms) b P Q (inr went) was stays follows =
-    now_same start (Some (ms ++ went.0 ∷ [])) b Q (sym went.1)
-    (subst Q (sym (last_push start ms went.0)) (follows (last start ms) went.0 was went.2))
 
 -- the moment after a call, by what the call says of both
 pub now_done : {M : Type 0} (start : M) (step R : M → M → Type 0) (a b : Option (List M)) (P Q : M → Type 0)

@@ -38,12 +38,6 @@ pub record RangeStands (from to : ℕ) (d : DiskMoment) : Type 0 where
   pub within : to ≤ d.low
   pub untouched : (i : ℕ) → from ≤ i → i < to → is_touched d.touched i ≡ false
 
--- the first bytes are settled: no write since began among them, and the disk was never shorter
-pub record FrontStands (count : ℕ) (d : DiskMoment) : Type 0 where
-  pub there : count ≤ length d.stable
-  pub within : count ≤ d.low
-  pub untouched : (i : ℕ) → i < count → is_touched d.touched i ≡ false
-
 -- each image of this moment has P
 abbrev pub EachImage : DiskMoment → (List ℕ → Type 0) → Type 0
 EachImage d P = (image : List ℕ) → IsImage d image → P image
@@ -105,9 +99,3 @@ pub record Reads (off : ℕ) (d : DiskMoment) (count : ℕ) (old new : List ℕ)
   pub count_is : count ≡ min (length old) (length d.content - off)
   pub bytes : take count new ≡ take count (drop off d.content)
   pub rest : drop count new ≡ drop count old
-
--- the same but for the bytes of a range
-pub record SameOutside (off count : ℕ) (old new : List ℕ) : Type 0 where
-  pub size : length new ≡ length old
-  pub front : take off new ≡ take off old
-  pub behind : drop (off + count) new ≡ drop (off + count) old

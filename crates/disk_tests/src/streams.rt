@@ -1,9 +1,9 @@
-//! Tests: the calls that fail, the end of the input, what a failed put leaves, interruptions, and
+//! Sources and sinks: the calls that fail, the end of the input, what a failed put leaves, interruptions, and
 //! that the types may go to another thread.
 
-use super::*;
 use std::io::{self, ErrorKind, Read, Write};
 use std::test::Fail;
+use tier_outside::{MemSink, MemSource, Sink, Source, SourceFault, StdSink, StdSource};
 
 // Every other call is interrupted; from the call of number `broken` on each call fails.
 #[derive(Drop)]
