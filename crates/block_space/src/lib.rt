@@ -6,8 +6,6 @@
 mod fault;
 mod shelf;
 mod space;
-#[cfg(test)]
-mod tests;
 
 pub use fault::{NoMemory, TakeFault};
 pub use space::BlockSpace;

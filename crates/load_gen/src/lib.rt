@@ -83,6 +83,3 @@ impl fmt::Display for Digits {
         write!(f, "{state:016x}")
     }
 }
-
-#[cfg(test)]
-mod tests;

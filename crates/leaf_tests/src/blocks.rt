@@ -1,5 +1,5 @@
 //! Takes and gives in turn, with answers worked out by hand.
-use super::*;
+use block_space::{BlockSpace, TakeFault};
 
 #[test]
 fn four_blocks(rt: HostRuntime) {

@@ -1,5 +1,5 @@
 //! Whole scripts, worked out by hand from the rules of the generator.
-use super::*;
+use load_gen::load_script;
 
 #[test]
 fn worked_scripts(rt: HostRuntime) {
