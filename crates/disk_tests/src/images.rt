@@ -7,7 +7,8 @@ use std::process::Abort;
 use std::test::Fail;
 use tier_outside::Disk;
 
-// Restarts a disk, and formats it or ends its formatting where it is empty; was that done, or was there nothing to do?
+// Restarts a disk, and formats it or ends its formatting where it is empty; was that done, or was
+// there nothing to do?
 fn open<D: Disk>(rt: &impl Abort, disk: &mut D, pair: u64) -> bool {
     if disk.restart().is_err() {
         return false;

@@ -40,7 +40,8 @@ fn store_all<D: Disk>(alloc: Global, disk: &mut D) -> usize {
     }
 }
 
-// Walks the journal at 0: the texts that are found are the first ones. Gives their number, or 9 where the first gate breaks it.
+// Walks the journal at 0: the texts that are found are the first ones. Gives their number, or 9
+// where the first gate breaks it.
 fn find<D: Disk>(rt: &impl Abort, alloc: Global, disk: &mut D) -> usize {
     match walk(alloc, disk, 0, 64) {
         Ok((_, payloads)) => {
@@ -57,8 +58,8 @@ fn find<D: Disk>(rt: &impl Abort, alloc: Global, disk: &mut D) -> usize {
     }
 }
 
-// Stores the texts, with whatever stop or fault the disk is made with, and restarts it: gives how many were told to be stored, and how
-// many are found.
+// Stores the texts, with whatever stop or fault the disk is made with, and restarts it: gives how
+// many were told to be stored, and how many are found.
 fn store_and_find<D: Disk>(rt: &impl Abort, alloc: Global, disk: &mut D) -> (usize, usize) {
     let told = store_all(alloc, disk);
     assert_eq!(rt; disk.restart(), Ok(()));
@@ -74,8 +75,9 @@ fn a_walk_gives_what_was_appended(rt: HostRuntime) -> Result<(), Fail> {
     Ok(())
 }
 
-// `start` reads the gate and writes it, the body and the gate again, each write with a sync: calls 1 to 7. Each append has 4 calls, and the
-// gates of the three lie at 9, 14 and 21. What is found after a stop, or a fault, at the calls 1 to 19, with a digit for each:
+// `start` reads the gate and writes it, the body and the gate again, each write with a sync: calls
+// 1 to 7. Each append has 4 calls, and the gates of the three lie at 9, 14 and 21. What is found
+// after a stop, or a fault, at the calls 1 to 19, with a digit for each:
 const FOUND: [(Pick, &[u8]); 5] = [
     (Pick::Old, b"9990000111122223333"),
     (Pick::New, b"9900001111222233334"),
@@ -135,7 +137,8 @@ fn count_or_gate<D: Disk>(alloc: Global, disk: &mut D, at: u64, end: u64) -> Res
     }
 }
 
-// The bytes of a disk, the start and the end of a range, and the gate that breaks it, or none, with the number of payloads.
+// The bytes of a disk, the start and the end of a range, and the gate that breaks it, or none, with
+// the number of payloads.
 const DAMAGED: [(&[u8], u64, u64, Result<usize, u64>); 15] = [
     // The first gate does not lie on the disk, or not before the end.
     (b"", 0, 10, Err(0)),
@@ -148,7 +151,8 @@ const DAMAGED: [(&[u8], u64, u64, Result<usize, u64>); 15] = [
     // One record.
     (b"\x01\0\0\0\x02ab\0", 0, 10, Ok(1)),
     (b"\x01\0\0\0\x02ab\0", 0, 8, Ok(1)),
-    // The gate behind it does not lie before the end, or not on the disk; then its payload, then its length.
+    // The gate behind it does not lie before the end, or not on the disk; then its payload, then
+    // its length.
     (b"\x01\0\0\0\x02ab\0", 0, 7, Err(0)),
     (b"\x01\0\0\0\x02ab", 0, 10, Err(0)),
     (b"\x01\0\0\0\x02a", 0, 10, Err(0)),
@@ -173,8 +177,9 @@ fn a_damaged_image_breaks_at_its_gate(rt: HostRuntime) -> Result<(), Fail> {
     Ok(())
 }
 
-// A journal of one record, on a disk that reads as other bytes from a call on; the walk asks for the size, for the head of the record, for
-// its payload and for the gate behind it. What is found: the number of payloads, or the gate that breaks it.
+// A journal of one record, on a disk that reads as other bytes from a call on; the walk asks for
+// the size, for the head of the record, for its payload and for the gate behind it. What is found:
+// the number of payloads, or the gate that breaks it.
 const FOGGED: [(Option<u64>, &[u8], Result<usize, u64>); 7] = [
     (None, b"", Ok(1)),
     (Some(1), b"", Err(0)),

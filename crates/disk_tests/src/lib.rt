@@ -1,5 +1,6 @@
-//! Sources and sinks, disks, journals and stores over logs, run: what disks in memory and files do, what a walk and an opening find after a stop or a fault at
-//! each call, in images that are damaged, and on disks that lie. The promises themselves are proved over any disk.
+//! Sources and sinks, disks, journals and stores over logs, run: what disks in memory and files do,
+//! what a walk and an opening find after a stop or a fault at each call, in images that are
+//! damaged, and on disks that lie. The promises themselves are proved over any disk.
 #![tactic(auto)]
 
 #[cfg(test)]

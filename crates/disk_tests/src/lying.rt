@@ -1,11 +1,13 @@
-//! A store over a disk that tells nothing of its content, and that has other bytes when it is restarted.
+//! A store over a disk that tells nothing of its content, and that has other bytes when it is
+//! restarted.
 use crate::tools::{EMPTY, PAIR, fog, reads_as};
 use log_store::LogStore;
 use obj_model::Pool;
 use std::test::Fail;
 use store_face::{Store, StoreFault};
 
-// A disk that is found empty is not formatted, and neither is one of another pair read; nothing is written.
+// A disk that is found empty is not formatted, and neither is one of another pair read; nothing is
+// written.
 #[test]
 fn what_is_found_instead_of_the_log(rt: HostRuntime) -> Result<(), Fail> {
     let alloc = rt.alloc();

@@ -37,7 +37,8 @@ fn a_pick_settles_each_byte(rt: HostRuntime) -> Result<(), Fail> {
         leaves(&rt, &mut disk, want);
         leaves(&rt, &mut disk, want);
     }
-    // A cut to 4 and a write of two bytes at 5: nothing from 4 on is settled, and byte 4 was never written.
+    // A cut to 4 and a write of two bytes at 5: nothing from 4 on is settled, and byte 4 was never
+    // written.
     let cut: [(Pick, &[u8]); 4] = [
         (Pick::Old, b"abcdefgh"),
         (Pick::New, b"abcd\0XY"),
@@ -122,7 +123,8 @@ fn the_same_bytes_are_unsettled_too(rt: HostRuntime) -> Result<(), Fail> {
     Ok(())
 }
 
-// The other bytes come from the third call on, whatever is written, and the faults are those of the disk below.
+// The other bytes come from the third call on, whatever is written, and the faults are those of the
+// disk below.
 #[test]
 fn a_disk_in_fog_has_other_bytes_from_a_call_on(rt: HostRuntime) -> Result<(), Fail> {
     let alloc = rt.alloc();

@@ -1,4 +1,5 @@
-//! Stops at each call: a commit is whole or not there, and a disk that is opened is empty or a log, however often that stops.
+//! Stops at each call: a commit is whole or not there, and a disk that is opened is empty or a log,
+//! however often that stops.
 use crate::tools::{PAIR, PUT, commit, count, memory, open, value_of};
 use log_store::{AttachFault, LogStore};
 use mem_disk::{MemDisk, Pick};
@@ -25,8 +26,8 @@ fn has_put<S: Store>(rt: &impl Abort, store: &mut S) -> bool {
     }
 }
 
-// Opens an empty disk that stops at a call, and commits: whether the commit was told to be done, and what is then found. None, where the
-// store was not opened.
+// Opens an empty disk that stops at a call, and commits: whether the commit was told to be done,
+// and what is then found. None, where the store was not opened.
 fn stop_at(
     rt: &impl Abort,
     alloc: Global,
@@ -47,8 +48,9 @@ fn stop_at(
     }
 }
 
-// An empty disk is opened in 8 calls, the first of which is the restart that ends a stop. The commit has 4: the record is written and
-// settled, and then its gate. What is found after a stop at the calls 9 to 12, by what the stop leaves of unsettled bytes:
+// An empty disk is opened in 8 calls, the first of which is the restart that ends a stop. The
+// commit has 4: the record is written and settled, and then its gate. What is found after a stop at
+// the calls 9 to 12, by what the stop leaves of unsettled bytes:
 const FOUND: [(Pick, [bool; 4]); 5] = [
     (Pick::Old, [false, false, false, false]),
     (Pick::New, [false, false, false, true]),
@@ -88,7 +90,8 @@ fn a_commit_that_was_told_is_there(rt: HostRuntime) -> Result<(), Fail> {
     Ok(())
 }
 
-// What the disk reads as after a restart. A stop that did not come while it was opened may come now.
+// What the disk reads as after a restart. A stop that did not come while it was opened may come
+// now.
 fn left<D: Disk>(rt: &impl Abort, alloc: Global, disk: &mut D) -> Result<Vec<u8>, Fail> {
     let mut buf = [0u8; 64];
     assert_eq!(rt; disk.restart(), Ok(()));

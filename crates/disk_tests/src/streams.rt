@@ -1,5 +1,5 @@
-//! Sources and sinks: the calls that fail, the end of the input, what a failed put leaves, interruptions, and
-//! that the types may go to another thread.
+//! Sources and sinks: the calls that fail, the end of the input, what a failed put leaves,
+//! interruptions, and that the types may go to another thread.
 
 use std::io::{self, ErrorKind, Read, Write};
 use std::test::Fail;

@@ -1,4 +1,5 @@
-//! What the tests share: disks, stores that are opened on them, and commits of transactions that are written out as bytes.
+//! What the tests share: disks, stores that are opened on them, and commits of transactions that
+//! are written out as bytes.
 ghost use Rattle.std.specs.Prelude.{◌≤◌, ◌^◌};
 
 use log_store::{AttachFault, LogStore};

@@ -1,4 +1,5 @@
-//! The disk over a file. Each fault that it answers is an error of the system, or comes after a sync that failed, and is counted.
+//! The disk over a file. Each fault that it answers is an error of the system, or comes after a
+//! sync that failed, and is counted.
 ghost use Rattle.std.specs.Prelude.{◌≡◌, ◌≤◌, None, IfOk, IfSome, length, true};
 ghost use Rattle.tier_outside.specs.Causes.{HasCause, Rose, one_more};
 ghost use Rattle.file_disk.specs.Files.{Settles, opened};
@@ -14,10 +15,12 @@ use tier_outside::{Disk, DiskFault};
 
 /// A file as a disk, which no other program has open as one. No call on it allocates.
 ///
-/// It is an honest disk as far as the file is: a sync that answers Ok asked the system that the bytes and the size reach the platter, and
-/// what a power cut leaves of a write is the system's to say. A restart opens nothing anew: it syncs, so that what is read from then on is
-/// settled. After a sync that failed the system may hold what was written for settled, though it is not; so from then on each sync and
-/// each restart of this disk fails, and only another opening of the file goes on.
+/// It is an honest disk as far as the file is: a sync that answers Ok asked the system that the
+/// bytes and the size reach the platter, and what a power cut leaves of a write is the system's to
+/// say. A restart opens nothing anew: it syncs, so that what is read from then on is settled. After
+/// a sync that failed the system may hold what was written for settled, though it is not; so from
+/// then on each sync and each restart of this disk fails, and only another opening of the file goes
+/// on.
 #[derive(Drop)]
 pub struct FileDisk<R: Files>
 where
@@ -44,9 +47,9 @@ impl<R: Files> FileDisk<R>
 where
     R::File: FileExt + Lock,
 {
-    /// Opens the file for reading and writing, and makes it where it is absent. A file that was made, or has no byte yet, is durable in
-    /// its folder before this answers Ok. A file that is open as a disk already, here or in another program, is not opened, and keeps all
-    /// its bytes.
+    /// Opens the file for reading and writing, and makes it where it is absent. A file that was
+    /// made, or has no byte yet, is durable in its folder before this answers Ok. A file that is
+    /// open as a disk already, here or in another program, is not opened, and keeps all its bytes.
     pub fn attach(rt: &R, path: &str) -> Result<FileDisk<R>, DiskFault>
         ensures { IfOk result (λ d. d ≡ opened) }
     {
@@ -83,7 +86,8 @@ fn fault(faults: &mut u64) -> DiskFault
     DiskFault
 }
 
-// Reads on until the buffer is full or the file ends; a read that was interrupted or stopped short is gone on with.
+// Reads on until the buffer is full or the file ends; a read that was interrupted or stopped short
+// is gone on with.
 fn read_there<F: FileExt>(file: &F, off: u64, buf: &mut [u8]) -> Option<usize>
     ensures { IfSome result (λ n. n ≤ length buf.new) }
 {

@@ -3,7 +3,8 @@ use Rattle.std.specs.Prelude.{◌≡◌, ◌≤◌, ℕ, ◌-◌, Bool, false, n
 use Rattle.tier_outside.specs.Causes.{one_more}
 use Rattle.mem_disk.specs.Memory.{Memory, now}
 
--- the disk that it stands on, how many calls there were, from which call on it lies, and the bytes that it gives then
+-- the disk that it stands on, how many calls there were, from which call on it lies, and the bytes
+-- that it gives then
 pub record Fog : Type 0 where
   pub inner : Memory
   pub calls : ℕ

@@ -8,13 +8,15 @@ use Rattle.mem_disk.specs.declared.pick.Pick.{Pick}
 use Rattle.mem_disk.specs.declared.plan.Turn.{Turn}
 use Rattle.mem_disk.specs.declared.plan.Turn.TheVariants.{Works, Torn, Off}
 
--- how many calls there were, which calls fail by their number, and from which call on the disk has stopped
+-- how many calls there were, which calls fail by their number, and from which call on the disk has
+-- stopped
 pub record Schedule : Type 0 where
   pub calls : ℕ
   pub fails : List ℕ
   pub stop : Option ℕ
 
--- a disk in memory: its moments, its faults, how many of these were for want of memory, which of its calls fail, and what a restart leaves
+-- a disk in memory: its moments, its faults, how many of these were for want of memory, which of
+-- its calls fail, and what a restart leaves
 pub record Memory : Type 0 where
   pub moments : List DiskMoment
   pub faults : ℕ
@@ -54,7 +56,8 @@ fails_next s = is_listed (next s) s.fails
 abbrev pub torn_where : Bool → Turn
 torn_where listed = if listed then Torn else Works
 
--- What the call of a number does, if it is no restart: from the call behind the stop on it is off, and at the stop it is torn.
+-- What the call of a number does, if it is no restart: from the call behind the stop on it is off,
+-- and at the stop it is torn.
 abbrev pub turn_at : Option ℕ → ℕ → Bool → Turn
 turn_at None call listed = torn_where listed
 turn_at (Some first) call listed = if nat_lt first call then Off else torn_where ((first == call) || listed)
@@ -111,8 +114,8 @@ abbrev pub Answers : {T E : Type 0} → Turn → Memory → Memory → Result T 
 Answers turn old new (Ok value) = (turn ≡ Works) × (new ≡ answered old)
 Answers turn old new (Err fault) = (turn ≢ Works) × (new ≡ refused old)
 
--- A write or a cut does all of its work in its turn, and a part of it where it is torn; or it wants memory and does nothing. After a
--- stop it does nothing.
+-- A write or a cut does all of its work in its turn, and a part of it where it is torn; or it wants
+-- memory and does nothing. After a stop it does nothing.
 abbrev pub Changes : {E : Type 0} → Turn → (all part : DiskMoment) → Memory → Memory → Result (Unit {0}) E → Type 0
 Changes turn all part old new (Ok done) = (turn ≡ Works) × (new ≡ worked all old)
 Changes turn all part old new (Err fault) =
@@ -123,7 +126,8 @@ abbrev pub Settles : {E : Type 0} → Turn → Memory → Memory → Result (Uni
 Settles turn old new (Ok done) = (turn ≡ Works) × (new ≡ worked (settled (now old).content) old)
 Settles turn old new (Err fault) = ((turn ≢ Works) × (new ≡ refused old)) ⊎ ((turn ≡ Works) × (new ≡ starved old))
 
--- A restart leaves what the pick says in its turn, or wants memory and does nothing; else it is refused.
+-- A restart leaves what the pick says in its turn, or wants memory and does nothing; else it is
+-- refused.
 abbrev pub Wakes : {E : Type 0} → Turn → Memory → Memory → Result (Unit {0}) E → Type 0
 Wakes turn old new (Ok done) =
     (turn ≡ Works) × ((bytes : List ℕ) × Picked old.pick (now old) bytes × (new ≡ woken bytes old))

@@ -22,8 +22,8 @@ picked_size (Junk byte) old new = new
 abbrev pub is_unsettled : List (ℕ × ℕ) → ℕ → ℕ → Bool
 is_unsettled ranges low i = is_touched ranges i || nat_le low i
 
--- What a stop leaves by this pick: each byte that is not settled is the chosen one, where a byte past an end counts as 0,
--- and every other byte stays.
+-- What a stop leaves by this pick: each byte that is not settled is the chosen one, where a byte
+-- past an end counts as 0, and every other byte stays.
 pub record Picked (pick : Pick) (d : DiskMoment) (image : List ℕ) : Type 0 where
   pub size : length image ≡ picked_size pick (length d.stable) (length d.content)
   pub bytes : (i : ℕ) → i < length image

@@ -1,5 +1,6 @@
-//! The disk in memory: which call fails and what a failed call does. It meets the trait of disks whole, images included, so code that is
-//! proved over any disk may be run over it with a stop at any call.
+//! The disk in memory: which call fails and what a failed call does. It meets the trait of disks
+//! whole, images included, so code that is proved over any disk may be run over it with a stop at
+//! any call.
 ghost use Rattle.std.specs.Prelude.{◌≡◌, ◌≤◌, ◌+◌, ◌/◌, ◌^◌, min, max, length, take, IfOk, OnOk, OnErr};
 ghost use Rattle.tier_outside.specs.Causes.{HasCause, Rose, one_more};
 ghost use Rattle.tier_outside.specs.Disk.{IsImage, Writes, Cuts, Syncs, Restarts, Reads, resized, touch, trim, written};
@@ -20,13 +21,16 @@ pub struct NoMemory;
 
 /// A disk in memory, for tests and for proofs that run. It counts its calls from 1.
 ///
-/// A call whose number is listed fails once. From the call `stop_at` on every call but a restart fails, until a restart; a stop happens
-/// once. A write that fails has written the first half of its bytes, rounded down, and a cut that fails has gone half of the way to its
-/// size; once the disk has stopped, later calls do nothing. A call that grows may also fail for want of memory, and then nothing changed,
-/// but that it counts as a fault and as starved. A write that is done counts its range as unsettled, whatever stood there.
+/// A call whose number is listed fails once. From the call `stop_at` on every call but a restart
+/// fails, until a restart; a stop happens once. A write that fails has written the first half of
+/// its bytes, rounded down, and a cut that fails has gone half of the way to its size; once the
+/// disk has stopped, later calls do nothing. A call that grows may also fail for want of memory,
+/// and then nothing changed, but that it counts as a fault and as starved. A write that is done
+/// counts its range as unsettled, whatever stood there.
 ///
-/// It keeps the bytes, the bytes when they were last settled, and 16 bytes for each write since. A read copies; a sync copies what was
-/// written since the last sync and what stands behind the least size since; so does a restart.
+/// It keeps the bytes, the bytes when they were last settled, and 16 bytes for each write since. A
+/// read copies; a sync copies what was written since the last sync and what stands behind the least
+/// size since; so does a restart.
 #[derive(Drop)]
 pub struct MemDisk {
     platter: Platter,

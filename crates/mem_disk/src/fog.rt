@@ -1,4 +1,5 @@
-//! A disk that tells nothing of its content, and from some call on has other bytes: for tests of code over disks that lie.
+//! A disk that tells nothing of its content, and from some call on has other bytes: for tests of
+//! code over disks that lie.
 ghost use Rattle.std.specs.Prelude.{◌≡◌, ◌≤◌, ◌+◌, ◌^◌, List, ℕ, None, IfOk, length};
 ghost use Rattle.tier_outside.specs.Causes.{HasCause};
 ghost use Rattle.mem_disk.specs.Fog.{Fog, ReadFrom, fog_counted, is_swapped, seen};
@@ -8,8 +9,9 @@ use crate::platter::read_part;
 use std::marker::Model;
 use tier_outside::{Disk, DiskFault};
 
-/// A disk over one in memory, which meets the trait of disks and tells nothing. From its call `swap_at` on, counted from 1, it reads as
-/// other bytes, whatever is written; a shorter list reads short. Its faults are those of the disk below, which every call reaches.
+/// A disk over one in memory, which meets the trait of disks and tells nothing. From its call
+/// `swap_at` on, counted from 1, it reads as other bytes, whatever is written; a shorter list reads
+/// short. Its faults are those of the disk below, which every call reaches.
 #[derive(Drop)]
 pub struct FogDisk {
     inner: MemDisk,
@@ -27,7 +29,8 @@ impl Model for FogDisk {
 }
 
 impl FogDisk {
-    /// A disk that reads as `inner` does, and from its call `swap_at` on as `with`. It takes no memory.
+    /// A disk that reads as `inner` does, and from its call `swap_at` on as `with`. It takes no
+    /// memory.
     pub fn new(inner: MemDisk, swap_at: Option<u64>, with: Vec<u8>) -> FogDisk
         ensures { result ≡ record { inner = inner; calls = 0; swap_at = swap_at; with_bytes = with.items } }
     {

@@ -1,5 +1,5 @@
-//! What a disk in memory holds, at each moment so far. It keeps the moments that the trait of disks asks for; the past is known to proofs
-//! alone and takes no memory.
+//! What a disk in memory holds, at each moment so far. It keeps the moments that the trait of disks
+//! asks for; the past is known to proofs alone and takes no memory.
 ghost use Rattle.std.specs.Prelude.{◌≡◌, ◌≤◌, ◌+◌, ◌-◌, ◌^◌, ℕ, List, [], ◌∷◌, ◌++◌, length, take, drop, min, max, OnOk, OnErr, IfOk};
 ghost use Rattle.tier_outside.specs.Disk.{Reads, resized, settled, touch, trim, written};
 ghost use Rattle.tier_outside.specs.DiskMoments.{last};

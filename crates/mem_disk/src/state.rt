@@ -8,8 +8,9 @@ ghost use Rattle.mem_disk.specs.Steps.Choosing.{CopiedIn, SettledBelow, is_betwe
 use crate::pick::{Pick, choose_unsettled, size_of};
 use std::alloc::AllocError;
 
-/// What a disk reads as, what it read as when it was last settled, the ranges written since (each by its first byte and the byte behind
-/// its last, one for each write), and the least and the greatest size since.
+/// What a disk reads as, what it read as when it was last settled, the ranges written since (each
+/// by its first byte and the byte behind its last, one for each write), and the least and the
+/// greatest size since.
 #[derive(Drop)]
 pub struct State {
     pub content: Vec<u8>,

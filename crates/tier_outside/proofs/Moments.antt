@@ -112,7 +112,8 @@ grows_now start (Some ms) b P Q grows was weaker =
     now_since start (Some ms) b (Q w) was
     (record { more = grows.more; grew = grows.grew; each = each_weaker grows.more (P w) (Q w) (weaker w) grows.each })
 
--- what stands between the moment now and that after a call, and between that and the one after the next
+-- what stands between the moment now and that after a call, and between that and the one after the
+-- next
 pub then_then : {M : Type 0} (start : M) (a b c : Option (List M)) (more : List M) (P Q R : M → M → Type 0) → b ≡ grown a more
     → ((x y z : M) → P x y → Q y z → R x z) → Then start a b P → Then start b c Q → Then start a c R
 then_then start None b c more P Q R grew both one two = tt

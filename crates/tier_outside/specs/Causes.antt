@@ -10,7 +10,8 @@ one_more count = min (count + 1) (2 ^ 64 - 1)
 abbrev pub Rose : ℕ → ℕ → Type 0
 Rose before now = one_more before ≤ now
 
--- The count of faults never falls; an Ok leaves it as it was, and a fault is answered only where it rose.
+-- The count of faults never falls; an Ok leaves it as it was, and a fault is answered only where it
+-- rose.
 pub record HasCause {T E : Type 0} (before now : ℕ) (result : Result T E) : Type 0 where
   pub later : before ≤ now
   pub kept : OnOk result (now ≡ before)

@@ -1,8 +1,8 @@
 -- A disk at one moment: what it reads as, what a stop may leave of it, and how a call changes both.
 use Rattle.std.specs.Prelude.{◌≡◌, ℕ, ◌+◌, ◌-◌, ◌<◌, ◌≤◌, Bool, false, ◌==◌, ◌&&◌, ◌||◌, nat_lt, nat_le, min, max, List, [], ◌∷◌, ◌++◌, length, take, drop, replicate, slice_index, if◌then◌else◌}
 
--- One moment. Since the disk was last settled the ranges were written, each given by its first byte and the byte behind its last,
--- and its size was between the least and the greatest.
+-- One moment. Since the disk was last settled the ranges were written, each given by its first byte
+-- and the byte behind its last, and its size was between the least and the greatest.
 pub record DiskMoment : Type 0 where
   -- what it reads as
   pub content : List ℕ
@@ -25,8 +25,8 @@ abbrev pub is_touched : List (ℕ × ℕ) → ℕ → Bool
 is_touched [] i = false
 is_touched (range ∷ ranges) i = (nat_le range.0 i && nat_lt i range.1) || is_touched ranges i
 
--- What a stop at this moment may leave: its size is any from the least to the greatest, and below the least size a byte that
--- no range holds is the settled one; every other byte may be anything.
+-- What a stop at this moment may leave: its size is any from the least to the greatest, and below
+-- the least size a byte that no range holds is the settled one; every other byte may be anything.
 pub record IsImage (d : DiskMoment) (image : List ℕ) : Type 0 where
   pub no_shorter : d.low ≤ length image
   pub no_longer : length image ≤ d.high
@@ -74,8 +74,8 @@ StopsIn off count d image = IsImage (touch off count d.content d) image
 abbrev pub trim : ℕ → List ℕ → DiskMoment → DiskMoment
 trim size now d = record { content = now; stable = d.stable; touched = d.touched; low = min d.low size; high = max d.high size }
 
--- A write began, and any part of its work may be done: the disk reads as what a stop in this write alone might leave of
--- what it read as before.
+-- A write began, and any part of its work may be done: the disk reads as what a stop in this write
+-- alone might leave of what it read as before.
 pub record Writes (off count : ℕ) (d e : DiskMoment) : Type 0 where
   pub is : e ≡ touch off count e.content d
   pub part : IsImage (touch off count [] (settled d.content)) e.content
@@ -94,7 +94,8 @@ pub record Restarts (d e : DiskMoment) : Type 0 where
   pub is : e ≡ settled e.content
   pub image : IsImage d e.content
 
--- a read of some bytes at an offset into a buffer stops short only at the end, and leaves what stands behind them
+-- a read of some bytes at an offset into a buffer stops short only at the end, and leaves what
+-- stands behind them
 pub record Reads (off : ℕ) (d : DiskMoment) (count : ℕ) (old new : List ℕ) : Type 0 where
   pub count_is : count ≡ min (length old) (length d.content - off)
   pub bytes : take count new ≡ take count (drop off d.content)

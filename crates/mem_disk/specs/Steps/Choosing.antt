@@ -1,4 +1,5 @@
--- The steps of which a restart and a sync are made: bytes that are chosen, and bytes that are copied.
+-- The steps of which a restart and a sync are made: bytes that are chosen, and bytes that are
+-- copied.
 use Rattle.std.specs.Prelude.{◌≡◌, ◌<◌, false, ℕ, Bool, ◌&&◌, nat_le, nat_lt, List, length, slice_index, if◌then◌else◌}
 use Rattle.tier_outside.specs.Disk.{DiskMoment}
 use Rattle.mem_disk.specs.declared.pick.Pick.{Pick}
