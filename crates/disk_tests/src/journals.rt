@@ -3,8 +3,8 @@ ghost use Rattle.std.specs.Prelude.{◌≡◌, ◌≤◌, ◌^◌};
 ghost use Rattle.tier_outside.specs.DiskMoments.{Now};
 ghost use Rattle.gate_journal.specs.Stands.{InRange, Standing};
 
-use gate_journal::{Journal, append, start, walk};
 use crate::tools::{failing, fog, memory, reads_as};
+use gate_journal::{Journal, append, start, walk};
 use mem_disk::Pick;
 use std::alloc::Global;
 use std::process::Abort;
