@@ -1,11 +1,11 @@
 -- Laws of images: what a stop leaves after a sync, after a write, after a cut.
-use Rattle.std.specs.Prelude.{◌-◌, replicate, ◌⊎◌, max, min, slice_index}
+use Rattle.std.specs.Prelude.{◌⊎◌, max, min, slice_index}
 use Rattle.std.specs.Prelude.{◌≡◌, ◌≤◌, ◌<◌, ◌+◌, ℕ, List, [], ◌∷◌, ◌++◌, length, take, drop, Bool, true, false, ◌&&◌, ◌||◌, nat_le, nat_lt, refl}
-use Rattle.std.proofs.Common.{inl, inr, ap, ◌∙◌, sym, subst, arith}
+use Rattle.std.proofs.Common.{inl, inr, ◌∙◌, sym, subst, arith}
 use Rattle.std.proofs.lemmas.Bool.Decides.{nat_tests}
 use Rattle.std.proofs.lemmas.Grind.{common_steps}
-use Rattle.std.proofs.lemmas.List.{append_assoc, take_at, ext_get_or, get_or-take, get_or-drop, length-take, length-drop}
-use Rattle.tier_outside.specs.Disk.{filled, resized, trim, DiskMoment, IsImage, FrontStands, SameOutside, Writes, Cuts, settled, touch, reach, is_touched, written}
+use Rattle.std.proofs.lemmas.List.{ext_get_or}
+use Rattle.tier_outside.specs.Disk.{resized, trim, DiskMoment, IsImage, Writes, Cuts, settled, touch, reach, is_touched, written}
 
 -- what is settled is the only image
 pub settled_only : (bytes image : List ℕ) → IsImage (settled bytes) image → image ≡ bytes

@@ -1,8 +1,6 @@
 -- Laws of a disk's clock: how promises on each image of each moment go on from call to call.
 use Rattle.std.specs.Prelude.{◌≡◌, ℕ, List, ◌∷◌, ◌++◌, [], Option}
-use Rattle.std.proofs.Common.{sym, subst}
-use Rattle.tier_outside.specs.Disk.{DiskMoment, EachImage, IsImage, Syncs, settled}
-use Rattle.tier_outside.proofs.DiskImages.{settled_only}
+use Rattle.tier_outside.specs.Disk.{DiskMoment, EachImage, settled}
 use Rattle.tier_outside.proofs.Moments as moments
 use Rattle.tier_outside.specs.DiskMoments.{last, Now, Then, Goes, Since}
 

@@ -1,7 +1,7 @@
 -- Laws of a clock of moments: how promises on each moment go on from call to call.
 use Rattle.std.specs.Prelude.{◌≡◌, List, [], ◌∷◌, ◌++◌, Option, Some, None, refl}
 use Rattle.std.proofs.Common.{ap, ◌∙◌, sym, subst, inl, inr}
-use Rattle.std.proofs.lemmas.List.{append-nil, append_assoc, append_cancel_left}
+use Rattle.std.proofs.lemmas.List.{append-nil, append_assoc}
 use Rattle.tier_outside.specs.Moments.{last, Now, Then, grown, Goes, Each, Since, Grows}
 
 -- ---- the moment now
