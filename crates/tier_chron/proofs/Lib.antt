@@ -1,1 +1,6 @@
 pub mod Openings
+pub mod Lists
+pub mod Places
+pub mod Growing
+pub mod Ids
+pub mod Staying

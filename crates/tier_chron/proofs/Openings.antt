@@ -10,8 +10,9 @@ use Rattle.obj_model.specs.declared.state.NameState.{NameState}
 use Rattle.tier_chron.specs.Logs.{Log, acted_log, opening_of, is_opened, opened}
 use Rattle.tier_chron.specs.Weights.{act_weight, bytes_of, first_weight}
 use Rattle.tier_chron.specs.declared.entries.Act.{Act}
+use Rattle.tier_chron.specs.declared.entries.Logged.{Logged}
 use Rattle.tier_chron.specs.declared.entries.First.{First}
-use Rattle.tier_chron.specs.Steps.Histories.{first_of, opened_weight}
+use Rattle.tier_chron.specs.Steps.Histories.{first_of, log_of, opened_weight}
 
 -- what the index has at a name is the name's opening
 pub found_opening : (es : List (List ℕ × NameState)) (name : List ℕ) → lookup (bytes_eq name) es ≡ opening_of (map first_of es) name
@@ -52,3 +53,12 @@ sum_opened opening (Some f) = by (is_opened opening f.name) refl
 -- what one more act adds to a history's weight
 pub bytes_acted : (log : Log) (f : Option First) (a : Act) → bytes_of (acted_log f a log) ≡ bytes_of log + (opened_weight f log.opening + act_weight a)
 bytes_acted log f a = omega (arith, sum_opened log.opening f, sum_by_push act_weight log.acts a)
+
+-- the weight of what is held behind one more act, by how its parts changed
+pub held_bytes : (es new : List (List ℕ × NameState)) (acts more : List Act) (answers : List Logged) (f : Option First) (a : Act)
+    → map first_of new ≡ opened f (map first_of es) → more ≡ acts ++ a ∷ []
+    → bytes_of (log_of new more answers) ≡ bytes_of (log_of es acts answers) + (opened_weight f (map first_of es) + act_weight a)
+held_bytes es new acts more answers f a front behind =
+    ap (λ o. bytes_of (record { opening = o; acts = more; answers = answers })) front
+    ∙ ap (λ xs. bytes_of (record { opening = opened f (map first_of es); acts = xs; answers = answers })) behind
+    ∙ bytes_acted (log_of es acts answers) f a

@@ -1,5 +1,5 @@
 -- What follows from the definitions, in plain words.
-use Rattle.std.specs.Prelude.{◌≡◌, ◌≢◌, ◌≤◌, ℕ, ◌+◌, true, false, List, [], ◌∷◌, ◌++◌, length, Option, Some, None}
+use Rattle.std.specs.Prelude.{◌≡◌, ◌≢◌, ◌≤◌, ℕ, suc, true, false, List, [], ◌∷◌, ◌++◌, length, Option, Some, None}
 use Rattle.std.specs.List.{AllByRecursion}
 use Rattle.obj_model.specs.declared.state.NameState.{NameState}
 use Rattle.obj_ops.specs.Stores.{Store, state_of}
@@ -31,7 +31,7 @@ PlacesStay log =
 -- each act, by its number, acted on the store at the place before it
 abbrev pub EachActed : Log → Type 0
 EachActed log =
-    (start : Store) → IsLegal start log → (place : ℕ) (a : Act) → act_at log.acts (place + 1) ≡ Some a
+    (start : Store) → IsLegal start log → (place : ℕ) (a : Act) → act_at log.acts (suc place) ≡ Some a
     → Acts (store_at start log.acts place) a
 
 -- ---- one act more
