@@ -17,9 +17,8 @@ use Rattle.tier_chron.specs.Places.{state_at}
 use Rattle.tier_chron.specs.Shapes.{HasNoAct, IsShaped, Stands, may_answer}
 use Rattle.tier_chron.specs.declared.answer.Answer.{Answer}
 use Rattle.tier_chron.specs.declared.answer.Answer.TheVariants as answer
-use Rattle.tier_chron.specs.declared.asked.Ask.TheVariants.{Write, Read}
 use Rattle.tier_chron.specs.declared.asked.Asked.{Asked}
-use Rattle.tier_chron.specs.declared.asked.Asked.TheVariants.{Client}
+use Rattle.tier_chron.specs.declared.asked.Asked.TheVariants.{Write, Read}
 use Rattle.tier_chron.specs.declared.entries.Act.{Act}
 use Rattle.tier_chron.specs.declared.entries.Logged.{Logged}
 
@@ -52,8 +51,8 @@ TellsRead s vector other = Unit {0}
 
 -- what an answer tells; only answers to clients tell of objects
 abbrev pub Tells : Store → List Act → Asked → Logged → Type 0
-Tells start acts (Client (Write req)) l = TellsWrite (state_at start acts l.place req.name) acts req l l.answer
-Tells start acts (Client (Read client name vector)) l = TellsRead (state_at start acts l.place name) vector l.answer
+Tells start acts (Write req) l = TellsWrite (state_at start acts l.place req.name) acts req l l.answer
+Tells start acts (Read client name vector) l = TellsRead (state_at start acts l.place name) vector l.answer
 Tells start acts other l = Unit {0}
 
 -- an answer fits what its call asked

@@ -10,9 +10,8 @@ use Rattle.tier_chron.specs.Logs.{Log}
 use Rattle.tier_chron.specs.Places.{act_at}
 use Rattle.tier_chron.specs.declared.answer.Answer.{Answer}
 use Rattle.tier_chron.specs.declared.answer.Answer.TheVariants as answer
-use Rattle.tier_chron.specs.declared.asked.Ask.TheVariants.{Write, Read}
 use Rattle.tier_chron.specs.declared.asked.Asked.{Asked}
-use Rattle.tier_chron.specs.declared.asked.Asked.TheVariants.{Client, Flush, Finish, Evict, Drain, Agent, Start}
+use Rattle.tier_chron.specs.declared.asked.Asked.TheVariants.{Write, Read, Flush, Finish, Evict, Drain, Agent, Start}
 use Rattle.tier_chron.specs.declared.entries.Act.{Act}
 use Rattle.tier_chron.specs.declared.entries.Logged.{Logged}
 
@@ -30,7 +29,7 @@ AreSingle (a ∷ acts) = HasNoAct a.call acts × AreSingle acts
 -- an act does what its call asked, and has the call's line
 abbrev pub IsAskedBy : Act → Option Call → Type 0
 IsAskedBy a None = ⊥
-IsAskedBy a (Some c) = (c.asked ≡ Client (Write a.req)) × (c.line ≡ Some a.line)
+IsAskedBy a (Some c) = (c.asked ≡ Write a.req) × (c.line ≡ Some a.line)
 
 -- a call began at no more acts than there are, and none of those is its own
 pub record IsBegun (acts : List Act) (c : Call) : Type 0 where
@@ -111,8 +110,8 @@ is_of_agent other = false
 
 -- whether what was asked may be answered so; a full history and want of memory are never logged
 abbrev pub may_answer : Asked → Answer → Bool
-may_answer (Client (Write req)) x = is_of_write x || is_fault x
-may_answer (Client (Read client name vector)) x = is_of_read x || is_fault x
+may_answer (Write req) x = is_of_write x || is_fault x
+may_answer (Read client name vector) x = is_of_read x || is_fault x
 may_answer (Flush name blocking false) x = is_of_flush x || is_fault x
 may_answer (Flush name blocking true) x = is_of_begin x || is_fault x
 may_answer (Finish name) x = is_of_finish x || is_fault x
@@ -139,7 +138,7 @@ StandsBeside acts req l other = Unit {0}
 
 -- beside an answer to any call; only a write request has acts at all
 abbrev pub Stands : List Act → Asked → Logged → Type 0
-Stands acts (Client (Write req)) l = StandsBeside acts req l l.answer
+Stands acts (Write req) l = StandsBeside acts req l l.answer
 Stands acts other l = Unit {0}
 
 -- an answer has its call's line and begin, is one that the call may have, and stands beside the right acts

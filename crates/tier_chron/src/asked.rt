@@ -3,22 +3,17 @@ ghost use Rattle.std.specs.Prelude.{◌≡◌, IfOk};
 
 use obj_model::{Name, NoMemory, Req, Vector};
 
-/// What a client asks: a write request, or the reading of a name with a read vector.
+/// What a call asks.
 #[derive(Clone, Debug, Drop)]
-pub enum Ask {
+pub enum Asked {
+    /// A client's write request.
     Write(Req),
+    /// A client's reading of a name, with a read vector.
     Read {
         client: u16,
         name: Name,
         vector: Vector,
     },
-}
-
-/// What a call asks.
-#[derive(Clone, Debug, Drop)]
-pub enum Asked {
-    /// A client's request.
-    Client(Ask),
     /// To write a name's record back to the base. A blocking flush keeps writers out; one with `begin_only`
     /// is answered when it has begun, and waits for its finish.
     Flush {
@@ -36,15 +31,6 @@ pub enum Asked {
     Agent,
     /// To make the group ready.
     Start,
-}
-
-impl Ask {
-    /// An equal request.
-    pub fn copy(&self) -> Result<Ask, NoMemory>
-        ensures { IfOk result (λ c. c ≡ self.now) }
-    {
-        Ok(self.clone()?)
-    }
 }
 
 impl Asked {
