@@ -3,6 +3,7 @@ use obj_model::{Mode, Path};
 use tier_chron::Answer;
 
 /// What a line is told of one group. A line that all groups answer has one of these for each.
+#[derive(Clone, Copy, Debug)]
 pub enum Told<'a> {
     /// An answer, with its path where it has one, and its place.
     Answered {

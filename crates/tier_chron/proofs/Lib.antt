@@ -4,3 +4,4 @@ pub mod Places
 pub mod Growing
 pub mod Ids
 pub mod Staying
+pub mod Calls

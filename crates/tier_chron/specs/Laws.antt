@@ -6,7 +6,7 @@ use Rattle.obj_ops.specs.Stores.{Store, state_of}
 use Rattle.tier_chron.specs.Calls.{Call, call_of}
 use Rattle.tier_chron.specs.Fits.{AreTrue, Fits, IsHistoryFrom, TellsCall}
 use Rattle.tier_chron.specs.Legal.{AreFresh, Acts, IsLegal, IsOrdered}
-use Rattle.tier_chron.specs.Logs.{Log, acted_log, answered_log, is_opened}
+use Rattle.tier_chron.specs.Logs.{Log, acted_log, answered_log, empty_log, is_opened}
 use Rattle.tier_chron.specs.Places.{act_at, behind, store_at, written_over}
 use Rattle.tier_chron.specs.Shapes.{HasNoAct, IsAnswered, IsAskedBy, IsShaped, is_fault}
 use Rattle.tier_chron.specs.declared.asked.Asked.{Asked}
@@ -116,3 +116,15 @@ IdsActOnce log = (start : Store) → IsLegal start log → HaveOwnIds log.acts
 abbrev pub SeenBefore : Log → Type 0
 SeenBefore log =
     (begin : ℕ) → IsOrdered log → begin ≡ length log.acts → AllByRecursion (λ l. l.place ≤ begin) log.answers
+
+-- ---- one call more
+
+-- a history goes on when a call begins, under a new number and at the present number of acts
+abbrev pub CallKeeps : Log → Type 0
+CallKeeps log =
+    (start : Store) (calls : List Call) (c : Call) → IsHistoryFrom start calls log → call_of calls c.number ≡ None
+    → c.begin ≡ length log.acts → IsHistoryFrom start (calls ++ c ∷ []) log
+
+-- a history in which nothing happened yet is one from every store, without calls
+abbrev pub BeginsAnywhere : Type 0
+BeginsAnywhere = (start : Store) → IsHistoryFrom start [] empty_log

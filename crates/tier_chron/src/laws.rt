@@ -1,5 +1,5 @@
 //! What follows from the definitions, in plain words. These calls do nothing: their contracts are the laws.
-ghost use Rattle.tier_chron.specs.Laws.{ActKeepsLegal, ActKeepsShape, ActKeepsTruth, AnswerKeeps, AnswerStays, EachActed, IdsActOnce, OpeningIsUnderneath, PlacesStay, SeenBefore};
+ghost use Rattle.tier_chron.specs.Laws.{ActKeepsLegal, ActKeepsShape, ActKeepsTruth, AnswerKeeps, AnswerStays, BeginsAnywhere, CallKeeps, EachActed, IdsActOnce, OpeningIsUnderneath, PlacesStay, SeenBefore};
 
 use crate::{Act, History, Logged};
 
@@ -60,4 +60,16 @@ pub fn ids_act_once(_history: &History)
 #[tactic(auto, using(crate::proofs::Growing::seen_before))]
 pub fn what_was_seen_is_there(_history: &History)
     ensures { SeenBefore _history.now.log }
+{}
+
+/// A history goes on, in all that is said of it, when a call begins under a new number.
+#[tactic(auto, using(crate::proofs::Calls::call_keeps))]
+pub fn a_call_keeps_it(_history: &History)
+    ensures { CallKeeps _history.now.log }
+{}
+
+/// A history in which nothing happened yet is one from every store.
+#[tactic(auto, using(crate::proofs::Calls::begins_anywhere))]
+pub fn it_begins_anywhere()
+    ensures { BeginsAnywhere }
 {}
