@@ -24,7 +24,8 @@ fn act(rt: &impl Abort, alloc: Global, tid: u64) -> Result<Act, Fail> {
     Ok(Act { call: tid, line: 1, req, reply: Reply::Done { ver: 1 } })
 }
 
-// The opening of `n` at this version, with a body of 3 bytes, and a key of 2 bytes with a value of 5.
+// The opening of `n` at this version, with a body of 3 bytes, and a key of 2 bytes with a value of
+// 5.
 fn opening(rt: &impl Abort, alloc: Global, ver: u64) -> Result<First, Fail> {
     let mut attrs = PairMap::new(alloc);
     attrs.insert(name(rt, alloc, b"kk")?, bytes(alloc, b"vvvvv")?)?;

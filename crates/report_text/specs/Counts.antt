@@ -1,5 +1,5 @@
 -- How many lines were answered how.
-use Rattle.std.specs.Prelude.{◌≡◌, ℕ, ◌+◌, true, false, List, [], ◌∷◌, ◌++◌, length, decimal, codes}
+use Rattle.std.specs.Prelude.{ℕ, ◌+◌, true, false, List, [], ◌∷◌, ◌++◌, codes}
 use Rattle.report_text.specs.Words.{number_text}
 use Rattle.report_text.specs.declared.counts.Counts.{Counts}
 use Rattle.report_text.specs.declared.counts.Class.{Class}
@@ -33,7 +33,9 @@ class_of all = Other
 
 -- no line
 abbrev pub no_counts : Counts
-no_counts = record { done = 0; refused = 0; values = 0; kept = 0; stale = 0; blocked = 0; full = 0; other = 0 }
+no_counts =
+    record { done = 0; refused = 0; values = 0; kept = 0; stale = 0; blocked = 0; full = 0;
+    other = 0 }
 
 -- one more line
 abbrev pub counted : Class → Counts → Counts
@@ -53,15 +55,18 @@ lines_of c = c.done + c.refused + c.values + c.kept + c.stale + c.blocked + c.fu
 -- the counts of answers that tell of objects
 abbrev pub objects_text : Counts → List ℕ
 objects_text c =
-    codes " done" ++ number_text c.done ++ codes " refused" ++ number_text c.refused ++ codes " values"
+    codes " done" ++ number_text c.done ++ codes " refused" ++ number_text c.refused
+    ++ codes " values"
     ++ number_text c.values ++ codes " kept" ++ number_text c.kept
 
 -- the counts of all others
 abbrev pub others_text : Counts → List ℕ
 others_text c =
-    codes " stale" ++ number_text c.stale ++ codes " blocked" ++ number_text c.blocked ++ codes " full"
+    codes " stale" ++ number_text c.stale ++ codes " blocked" ++ number_text c.blocked
+    ++ codes " full"
     ++ number_text c.full ++ codes " other" ++ number_text c.other
 
 -- the summary of a run
 abbrev pub summary_text : Counts → List ℕ
-summary_text c = codes "lines" ++ number_text (lines_of c) ++ objects_text c ++ others_text c ++ codes "\n"
+summary_text c =
+    codes "lines" ++ number_text (lines_of c) ++ objects_text c ++ others_text c ++ codes "\n"

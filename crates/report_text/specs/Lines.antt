@@ -19,7 +19,8 @@ way_text false path = []
 
 -- what is told of one group
 abbrev pub told_text : Bool → Told → List ℕ
-told_text paths (told.Answered answer path place) = answer_text place answer.now ++ way_text paths path
+told_text paths (told.Answered answer path place) =
+    answer_text place answer.now ++ way_text paths path
 told_text paths (told.Mode mode) = codes "mode " ++ mode_text mode
 told_text paths (told.Time moment) = codes "time" ++ number_text moment
 told_text paths (told.CacheStopped epoch) = codes "stopped cache epoch" ++ number_text epoch
@@ -32,7 +33,8 @@ next_told_text paths t = codes " ; " ++ told_text paths t
 -- what is told of groups, with a semicolon between two
 abbrev pub all_told_text : Bool → List Told → List ℕ
 all_told_text paths [] = []
-all_told_text paths (first ∷ others) = told_text paths first ++ flat_map (next_told_text paths) others
+all_told_text paths (first ∷ others) =
+    told_text paths first ++ flat_map (next_told_text paths) others
 
 -- a line's answers: its number, a space, what is told, and a newline
 abbrev pub line_text : Bool → ℕ → List Told → List ℕ
@@ -41,7 +43,8 @@ line_text paths number all = decimal number ++ codes " " ++ all_told_text paths 
 -- an act of a group's history, by its number
 abbrev pub act_text : ℕ → ℕ → Act → List ℕ
 act_text group number a =
-    codes "act" ++ number_text group ++ number_text number ++ number_text a.req.client ++ number_text a.req.tid
+    codes "act" ++ number_text group ++ number_text number ++ number_text a.req.client
+    ++ number_text a.req.tid
     ++ key_text a.req.name ++ codes " " ++ reply_text a.reply ++ codes "\n"
 
 -- what an object has
@@ -54,7 +57,8 @@ obj_text (Some o) =
 -- a state, without its bytes
 abbrev pub state_text : NameState → List ℕ
 state_text s =
-    codes "v" ++ decimal s.ver ++ codes " q" ++ decimal s.seq ++ codes " " ++ obj_text s.obj ++ codes " ids"
+    codes "v" ++ decimal s.ver ++ codes " q" ++ decimal s.seq ++ codes " " ++ obj_text s.obj
+    ++ codes " ids"
     ++ number_text (length s.seen)
 
 -- whether a record has been written back
@@ -65,8 +69,10 @@ status_text false = codes "clean"
 -- a record of the cache
 abbrev pub cache_text : ℕ → List ℕ → Bool → NameState → List ℕ
 cache_text group name dirty s =
-    codes "cache" ++ number_text group ++ key_text name ++ codes " " ++ status_text dirty ++ codes " " ++ state_text s ++ codes "\n"
+    codes "cache" ++ number_text group ++ key_text name ++ codes " " ++ status_text dirty
+    ++ codes " " ++ state_text s ++ codes "\n"
 
 -- a state of the base
 abbrev pub base_text : ℕ → List ℕ → NameState → List ℕ
-base_text group name s = codes "base" ++ number_text group ++ key_text name ++ codes " " ++ state_text s ++ codes "\n"
+base_text group name s =
+    codes "base" ++ number_text group ++ key_text name ++ codes " " ++ state_text s ++ codes "\n"

@@ -94,4 +94,5 @@ path_text path.ProxyWrite = codes "proxy-write"
 -- the reply of an act
 abbrev pub reply_text : Reply → List ℕ
 reply_text (reply.Done ver) = codes "done v" ++ decimal ver
-reply_text (reply.Refused at why ver) = codes "refused" ++ number_text at ++ codes " " ++ why_text why ++ codes " v" ++ decimal ver
+reply_text (reply.Refused at why ver) =
+    codes "refused" ++ number_text at ++ codes " " ++ why_text why ++ codes " v" ++ decimal ver

@@ -62,7 +62,8 @@ fn put_one(text: &mut Text, word: &str, number: u64) -> Result<(), NoMemory>
 
 // A word and two numbers.
 fn put_two(text: &mut Text, word: &str, first: u64, second: u64) -> Result<(), NoMemory>
-    ensures { OnOk result (text.new ≡ text.old ++ word.now ++ number_text first ++ number_text second) }
+    ensures { OnOk result (text.new ≡ text.old ++ word.now ++ number_text first
+        ++ number_text second) }
 {
     put_one(text, word, first)?;
     put_number(text, second)
@@ -70,7 +71,8 @@ fn put_two(text: &mut Text, word: &str, first: u64, second: u64) -> Result<(), N
 
 // An accepted write request.
 fn put_done(text: &mut Text, ver: u64, kept: bool, place: u64) -> Result<(), NoMemory>
-    ensures { OnOk result (text.new ≡ text.old ++ codes "done" ++ standing_text ver place ++ kept_text kept) }
+    ensures { OnOk result (text.new ≡ text.old ++ codes "done" ++ standing_text ver place
+        ++ kept_text kept) }
 {
     text.push("done")?;
     put_standing(text, ver, place)?;
@@ -79,7 +81,8 @@ fn put_done(text: &mut Text, ver: u64, kept: bool, place: u64) -> Result<(), NoM
 
 // A refused request.
 fn put_refused(text: &mut Text, at: u8, why: Why, ver: u64, kept: bool, place: u64) -> Result<(), NoMemory>
-    ensures { OnOk result (text.new ≡ text.old ++ codes "refused" ++ number_text at ++ codes " " ++ why_text why
+    ensures { OnOk result (text.new ≡ text.old ++ codes "refused" ++ number_text at
+        ++ codes " " ++ why_text why
         ++ standing_text ver place ++ kept_text kept) }
 {
     put_one(text, "refused", u64::from(at))?;
@@ -91,7 +94,8 @@ fn put_refused(text: &mut Text, at: u8, why: Why, ver: u64, kept: bool, place: u
 
 // What a reading told.
 fn put_values(text: &mut Text, ver: u64, outs: &[Out], place: u64) -> Result<(), NoMemory>
-    ensures { OnOk result (text.new ≡ text.old ++ codes "values" ++ standing_text ver place ++ codes " "
+    ensures { OnOk result (text.new ≡ text.old ++ codes "values" ++ standing_text ver place
+        ++ codes " "
         ++ outs_text outs.now) }
 {
     text.push("values")?;
@@ -102,7 +106,8 @@ fn put_values(text: &mut Text, ver: u64, outs: &[Out], place: u64) -> Result<(),
 
 // Unfinished work that stood in the way.
 fn put_blocked(text: &mut Text, kind: Kind, opid: u64) -> Result<(), NoMemory>
-    ensures { OnOk result (text.new ≡ text.old ++ codes "blocked " ++ kind_text kind ++ number_text opid) }
+    ensures { OnOk result (text.new ≡ text.old ++ codes "blocked " ++ kind_text kind
+        ++ number_text opid) }
 {
     text.push("blocked ")?;
     put_one(text, kind_word(kind), opid)
@@ -110,7 +115,8 @@ fn put_blocked(text: &mut Text, kind: Kind, opid: u64) -> Result<(), NoMemory>
 
 // Records that a drain left, and the first name that was busy.
 fn put_left(text: &mut Text, count: u64, name: &Name, kind: Kind, opid: u64) -> Result<(), NoMemory>
-    ensures { OnOk result (text.new ≡ text.old ++ codes "left" ++ number_text count ++ key_text name.now ++ codes " "
+    ensures { OnOk result (text.new ≡ text.old ++ codes "left" ++ number_text count
+        ++ key_text name.now ++ codes " "
         ++ kind_text kind ++ number_text opid) }
 {
     put_one(text, "left", count)?;
@@ -137,7 +143,8 @@ fn put_did(text: &mut Text, did: &AgentDid) -> Result<(), NoMemory>
 
 // A word, a name and a number.
 fn put_named(text: &mut Text, word: &str, name: &Name, number: u64) -> Result<(), NoMemory>
-    ensures { OnOk result (text.new ≡ text.old ++ word.now ++ key_text name.now ++ number_text number) }
+    ensures { OnOk result (text.new ≡ text.old ++ word.now ++ key_text name.now
+        ++ number_text number) }
 {
     text.push(word)?;
     put_name(text, name)?;
@@ -146,7 +153,8 @@ fn put_named(text: &mut Text, word: &str, name: &Name, number: u64) -> Result<()
 
 // A pool without room.
 fn put_no_space(text: &mut Text, pool: Pool, used: u64, need: u64, limit: u64) -> Result<(), NoMemory>
-    ensures { OnOk result (text.new ≡ text.old ++ codes "nospace " ++ pool_text pool ++ number_text used
+    ensures { OnOk result (text.new ≡ text.old ++ codes "nospace " ++ pool_text pool
+        ++ number_text used
         ++ number_text need ++ number_text limit) }
 {
     text.push("nospace ")?;
@@ -156,7 +164,8 @@ fn put_no_space(text: &mut Text, pool: Pool, used: u64, need: u64, limit: u64) -
 
 // A pool whose disk holds no journal at this offset.
 fn put_damaged(text: &mut Text, pool: Pool, at: u64) -> Result<(), NoMemory>
-    ensures { OnOk result (text.new ≡ text.old ++ codes "damaged " ++ pool_text pool ++ number_text at) }
+    ensures { OnOk result (text.new ≡ text.old ++ codes "damaged " ++ pool_text pool
+        ++ number_text at) }
 {
     text.push("damaged ")?;
     put_one(text, pool_word(pool), at)
@@ -164,7 +173,8 @@ fn put_damaged(text: &mut Text, pool: Pool, at: u64) -> Result<(), NoMemory>
 
 // A pool with a value that spells no state.
 fn put_bad_record(text: &mut Text, pool: Pool, name: &Name) -> Result<(), NoMemory>
-    ensures { OnOk result (text.new ≡ text.old ++ codes "badrecord " ++ pool_text pool ++ key_text name.now) }
+    ensures { OnOk result (text.new ≡ text.old ++ codes "badrecord " ++ pool_text pool
+        ++ key_text name.now) }
 {
     put_pair(text, "badrecord ", pool_word(pool))?;
     put_name(text, name)

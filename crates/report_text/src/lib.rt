@@ -1,6 +1,8 @@
-//! The texts of what is told: answers of lines, acts, the summary of a run, and the rows of both pools.
+//! The texts of what is told: answers of lines, acts, the summary of a run, and the rows of both
+//! pools.
 //!
-//! Each text is put into a buffer that the caller reuses, and is exactly that of its definition (`specs/`).
+//! Each text is put into a buffer that the caller reuses, and is exactly that of its definition
+//! (`specs/`).
 #![tactic(auto)]
 
 mod answers;

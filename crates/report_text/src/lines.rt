@@ -8,7 +8,8 @@ use crate::{Text, Told};
 use obj_model::{NoMemory, Path};
 use tier_chron::Act;
 
-/// Puts the text of a line behind a text: its number, what it is told of each group, joined with ` ; `, and a newline.
+/// Puts the text of a line behind a text: its number, what it is told of each group, joined with
+/// ` ; `, and a newline.
 /// With `paths` each answer that has a path is followed by it.
 pub fn answer_text(text: &mut Text, number: u32, told: &[Told<'_>], paths: bool) -> Result<(), NoMemory>
     ensures { OnOk result (text.new ≡ text.old ++ line_text paths number told.now) }
@@ -19,7 +20,8 @@ pub fn answer_text(text: &mut Text, number: u32, told: &[Told<'_>], paths: bool)
     text.push("\n")
 }
 
-/// Puts the text of an act behind a text: its group, its number counted from 1, its request's id, and its reply.
+/// Puts the text of an act behind a text: its group, its number counted from 1, its request's id,
+/// and its reply.
 pub fn put_act(text: &mut Text, group: u32, number: u64, act: &Act) -> Result<(), NoMemory>
     ensures { OnOk result (text.new ≡ text.old ++ act_text group number act.now) }
 {

@@ -1,16 +1,14 @@
 -- Histories with one more call.
-use Rattle.std.proofs.Common.{◌≡◌, ◌≢◌, ℕ, zero, suc, ◌==◌, ◌≤◌, true, false, List, [], ◌∷◌, ◌++◌, take, length, Option, Some, None, refl, sym, ap, subst, ◌∙◌, arith}
-use Rattle.std.specs.List.{AllByRecursion, find}
+use Rattle.std.proofs.Common.{◌≡◌, ◌≢◌, ℕ, zero, suc, ◌==◌, List, [], ◌∷◌, ◌++◌, take, Option, Some, None, sym, ap, subst, ◌∙◌, arith}
+use Rattle.std.specs.List.{AllByRecursion}
 use Rattle.std.specs.Option.{option_or}
 use Rattle.std.proofs.lemmas.List.Folds.{find-append}
-use Rattle.obj_ops.specs.Stores.{Store}
 use Rattle.tier_chron.specs.Calls.{Call, call_of}
-use Rattle.tier_chron.specs.Fits.{AreTrue, IsHistoryFrom, TellsCall}
+use Rattle.tier_chron.specs.Fits.{TellsCall}
 use Rattle.tier_chron.specs.Laws.{BeginsAnywhere, CallKeeps}
 use Rattle.tier_chron.specs.Logs.{Log}
 use Rattle.tier_chron.specs.Shapes.{HasNoAct, IsAnswered, IsAskedBy, IsBegun}
 use Rattle.tier_chron.specs.declared.entries.Act.{Act}
-use Rattle.tier_chron.specs.declared.entries.Logged.{Logged}
 use Rattle.tier_chron.proofs.Lists.{all_imply, all_push}
 
 all_front : {X : Type 0} (P : X → Type 0) (xs : List X) (n : ℕ) → AllByRecursion P xs → AllByRecursion P (take n xs)

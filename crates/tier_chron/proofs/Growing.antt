@@ -1,13 +1,10 @@
 -- Histories with one more act.
-use Rattle.std.proofs.Common.{◌≡◌, ◌≢◌, ℕ, ◌+◌, ◌<◌, ◌≤◌, Bool, true, false, cond, ◌||◌, is_some, List, [], ◌∷◌, ◌++◌, take, length, Option, Some, None, refl, sym, ap, subst, ◌∙◌, true≢false, bytes_eq, arith, length-append}
+use Rattle.std.proofs.Common.{◌≡◌, ◌≢◌, ℕ, ◌≤◌, Bool, true, false, cond, ◌||◌, is_some, List, [], ◌∷◌, ◌++◌, length, Option, Some, None, refl, sym, ap, subst, ◌∙◌, true≢false, bytes_eq, arith, length-append}
 use Rattle.std.specs.List.{AllByRecursion, list_any}
-use Rattle.std.proofs.lemmas.List.{take-append-le}
 use Rattle.std.proofs.lemmas.List.Folds.{list_any-append}
-use Rattle.obj_model.specs.declared.state.NameState.{NameState}
 use Rattle.obj_ops.specs.Stores.{Store, state_of}
-use Rattle.tier_chron.specs.Calls.{Call, call_of}
-use Rattle.tier_chron.specs.Laws.{ActKeepsLegal, ActKeepsShape, IsNamedFor, IsOpeningFor, MayAct, SeenBefore}
-use Rattle.tier_chron.specs.Legal.{AreFresh, AreInOrder, AreOnce, AreOpened, Acts, IsLegal, IsOrdered, IsPlaced, IsTouched}
+use Rattle.tier_chron.specs.Laws.{ActKeepsLegal, IsNamedFor, IsOpeningFor, SeenBefore}
+use Rattle.tier_chron.specs.Legal.{AreOnce, AreOpened, IsLegal, IsOrdered, IsPlaced, IsTouched}
 use Rattle.tier_chron.specs.Logs.{Log, acted_log, is_opened, opened, opening_of}
 use Rattle.tier_chron.specs.Places.{behind}
 use Rattle.tier_chron.specs.declared.entries.First.{First}

@@ -1,5 +1,5 @@
 -- Every request id acts at most once.
-use Rattle.std.proofs.Common.{◌≡◌, ◌≢◌, ◌<◌, ◌^◌, ℕ, List, [], ◌∷◌, ◌++◌, map, Option, Some, None, Result, Ok, Err, refl, sym, ap, subst, ◌∙◌, arith}
+use Rattle.std.proofs.Common.{◌≡◌, ◌<◌, List, [], ◌∷◌, ◌++◌, map, Option, Some, None, Result, Ok, Err, sym, ap, subst, ◌∙◌, arith}
 use Rattle.std.specs.List.{AllByRecursion}
 use Rattle.obj_model.specs.declared.reply.Reply.{Reply}
 use Rattle.obj_model.specs.declared.reply.Kept.{Kept}
@@ -8,9 +8,8 @@ use Rattle.obj_model.specs.declared.state.NameState.{NameState}
 use Rattle.obj_ops.specs.Acts.{act, acted, kept_of}
 use Rattle.obj_ops.specs.Laws.{IsDone}
 use Rattle.obj_ops.specs.Ops.{Refusal, Run, run}
-use Rattle.obj_ops.specs.Stores.{Store, state_of, replay}
-use Rattle.obj_ops.specs.declared.request.Acted.{Acted}
-use Rattle.obj_ops.specs.declared.request.Acted.TheVariants.{Fresh, Again, Stale, Worn}
+use Rattle.obj_ops.specs.Stores.{Store, state_of}
+use Rattle.obj_ops.specs.declared.request.Acted.TheVariants.{Fresh}
 use Rattle.obj_ops.proofs.Cases.{IsNewer, act_cases}
 use Rattle.obj_ops.proofs.Replays.{at_most_once}
 use Rattle.tier_chron.specs.Laws.{HaveOneId, HaveOwnIds, IdsActOnce}

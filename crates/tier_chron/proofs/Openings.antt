@@ -1,5 +1,5 @@
 -- Openings as they are held in an index.
-use Rattle.std.proofs.Common.{◌≡◌, ℕ, ◌+◌, ◌≤◌, List, [], ◌∷◌, ◌++◌, Bool, true, false, cond, map, Some, None, Option, refl, sym, ap, ◌∙◌, bytes_eq, is_some}
+use Rattle.std.proofs.Common.{◌≡◌, ℕ, ◌+◌, List, [], ◌∷◌, ◌++◌, Bool, true, false, cond, map, Some, None, Option, refl, sym, ap, ◌∙◌, bytes_eq, is_some}
 use Rattle.std.proofs.Common.{true≢false, sum_by, arith}
 use Rattle.std.proofs.lemmas.List.Sums.{sum_by_push}
 use Rattle.std.proofs.lemmas.List.{map-append}

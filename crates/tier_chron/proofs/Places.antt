@@ -1,18 +1,15 @@
 -- Stores behind acts, and openings against them.
-use Rattle.std.proofs.Common.{◌≡◌, ◌≢◌, ℕ, ◌≤◌, zero, suc, Bool, true, false, cond, is_some, List, [], ◌∷◌, ◌++◌, take, length, slice_get, Option, Some, None, refl, sym, ap, subst, ◌∙◌, true≢false, bytes_eq}
+use Rattle.std.proofs.Common.{◌≡◌, ◌≢◌, ℕ, ◌≤◌, zero, suc, true, false, cond, is_some, List, [], ◌∷◌, ◌++◌, length, slice_get, Some, refl, sym, ap, subst, ◌∙◌, true≢false, bytes_eq}
 use Rattle.std.specs.List.{AllByRecursion}
 use Rattle.std.proofs.lemmas.List.{take-append-le}
 use Rattle.std.proofs.lemmas.Slice.Eq.{bytes_eq-Decides}
-use Rattle.std.specs.FinMap as fin
-use Rattle.obj_model.specs.declared.req.Req.{Req}
-use Rattle.obj_model.specs.declared.state.NameState.{NameState}
 use Rattle.obj_ops.specs.Acts.{act}
-use Rattle.obj_ops.specs.Stores.{Store, state_of, store_after}
+use Rattle.obj_ops.specs.Stores.{Store, state_of}
 use Rattle.obj_ops.proofs.Stores.{after_cases, put_cases, state_of-put}
 use Rattle.tier_chron.specs.Laws.{EachActed, OpeningIsUnderneath, PlacesStay}
-use Rattle.tier_chron.specs.Legal.{AreFresh, AreOnce, Acts, IsLegal}
+use Rattle.tier_chron.specs.Legal.{AreFresh, Acts}
 use Rattle.tier_chron.specs.Logs.{Log, is_opened, opening_of}
-use Rattle.tier_chron.specs.Places.{act_at, behind, behind_one, store_at, written_over}
+use Rattle.tier_chron.specs.Places.{behind, behind_one, store_at, written_over}
 use Rattle.tier_chron.specs.declared.entries.First.{First}
 use Rattle.tier_chron.specs.declared.entries.Act.{Act}
 use Rattle.tier_chron.proofs.Lists.{all_imply, either_way}

@@ -1,26 +1,24 @@
 -- Answers go on fitting when acts come.
-use Rattle.std.proofs.Common.{◌≡◌, ◌≢◌, ℕ, ◌≤◌, zero, suc, Bool, true, false, List, [], ◌∷◌, ◌++◌, take, length, Option, Some, None, refl, sym, ap, subst, ◌∙◌, true≢false, arith, length-append}
+use Rattle.std.proofs.Common.{◌≡◌, ◌≢◌, ℕ, ◌≤◌, zero, suc, true, false, List, [], ◌∷◌, ◌++◌, length, Option, Some, None, sym, ap, subst, ◌∙◌, true≢false, arith, length-append}
 use Rattle.std.specs.List.{AllByRecursion}
 use Rattle.std.proofs.lemmas.List.{take-append-le}
 use Rattle.obj_model.specs.declared.reply.Reply.{Reply}
 use Rattle.obj_model.specs.declared.reply.Reply.TheVariants as reply
 use Rattle.obj_model.specs.declared.req.Req.{Req}
 use Rattle.obj_model.specs.declared.state.NameState.{NameState}
-use Rattle.obj_model.specs.declared.sub_op.SubOp.{SubOp}
-use Rattle.obj_ops.specs.Acts.{act, look}
+use Rattle.obj_ops.specs.Acts.{act}
 use Rattle.obj_ops.specs.Stores.{Store, state_of}
 use Rattle.tier_chron.specs.Calls.{Call, call_of}
-use Rattle.tier_chron.specs.Fits.{AreTrue, Fits, HasReply, IsHistoryFrom, IsKept, IsStale, Tells, TellsCall, TellsRead, TellsWrite}
-use Rattle.tier_chron.specs.Laws.{ActKeepsShape, ActKeepsTruth, AnswerKeeps, AnswerStays, IsNamedFor, MayAct, MayLog}
-use Rattle.tier_chron.specs.Legal.{AreInOrder, IsLegal, IsOrdered, IsPlaced}
-use Rattle.tier_chron.specs.Logs.{Log, acted_log, answered_log}
-use Rattle.tier_chron.specs.Places.{act_at, state_at, store_at}
-use Rattle.tier_chron.specs.Shapes.{AreSingle, HasNoAct, IsAnswered, IsAnswerTo, IsAskedBy, IsBegun, IsShaped, Stands, StandsBeside, is_fault}
+use Rattle.tier_chron.specs.Fits.{HasReply, IsKept, Tells, TellsCall, TellsRead, TellsWrite}
+use Rattle.tier_chron.specs.Laws.{ActKeepsShape, ActKeepsTruth, AnswerKeeps, AnswerStays, MayLog}
+use Rattle.tier_chron.specs.Legal.{AreInOrder, IsOrdered, IsPlaced}
+use Rattle.tier_chron.specs.Logs.{Log, answered_log}
+use Rattle.tier_chron.specs.Places.{act_at, state_at}
+use Rattle.tier_chron.specs.Shapes.{AreSingle, HasNoAct, IsAnswered, IsAskedBy, IsBegun, Stands, StandsBeside, is_fault}
 use Rattle.tier_chron.specs.declared.answer.Answer.{Answer}
 use Rattle.tier_chron.specs.declared.answer.Answer.TheVariants as answer
 use Rattle.tier_chron.specs.declared.asked.Asked.{Asked}
-use Rattle.tier_chron.specs.declared.asked.Asked.TheVariants.{Write, Read, Flush, Finish, Evict, Drain, Agent, Start}
-use Rattle.tier_chron.specs.declared.entries.First.{First}
+use Rattle.tier_chron.specs.declared.asked.Asked.TheVariants.{Write, Read}
 use Rattle.tier_chron.specs.declared.entries.Act.{Act}
 use Rattle.tier_chron.specs.declared.entries.Logged.{Logged}
 use Rattle.tier_chron.proofs.Growing.{ordered_push}

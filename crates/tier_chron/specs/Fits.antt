@@ -1,5 +1,5 @@
 -- Answers that fit: what an answer tells is what the plain store tells at the answer's place.
-use Rattle.std.specs.Prelude.{◌≡◌, ℕ, true, false, List, [], ◌∷◌, Option, Some, None}
+use Rattle.std.specs.Prelude.{◌≡◌, ℕ, true, List, Option, Some, None}
 use Rattle.std.specs.List.{AllByRecursion}
 use Rattle.obj_model.specs.declared.reply.Reply.{Reply}
 use Rattle.obj_model.specs.declared.reply.Reply.TheVariants as reply
@@ -27,19 +27,22 @@ abbrev pub HasReply : ℕ → Reply → List Act → Type 0
 HasReply call given acts = AllByRecursion (λ a. a.call ≡ call → a.reply ≡ given) acts
 
 -- the request was answered before: here it is answered again, with this reply
-pub record IsKept (s : NameState) (acts : List Act) (req : Req) (l : Logged) (given : Reply) : Type 0 where
+pub record IsKept (s : NameState) (acts : List Act) (req : Req) (l : Logged)
+    (given : Reply) : Type 0 where
   pub again : act s req ≡ acted.Again given
   pub same : HasReply l.call given acts
 
 -- the request comes too late: a later one of its client acted, with this number
-pub record IsStale (s : NameState) (acts : List Act) (req : Req) (l : Logged) (tid : ℕ) : Type 0 where
+pub record IsStale (s : NameState) (acts : List Act) (req : Req) (l : Logged)
+    (tid : ℕ) : Type 0 where
   pub stale : act s req ≡ acted.Stale tid
   pub none : HasNoAct l.call acts
 
 -- what an answer to a write request tells, where the name has this state at its place
 abbrev pub TellsWrite : NameState → List Act → Req → Logged → Answer → Type 0
 TellsWrite s acts req l (answer.Done ver true) = IsKept s acts req l (reply.Done ver)
-TellsWrite s acts req l (answer.Refused at why ver true) = IsKept s acts req l (reply.Refused at why ver)
+TellsWrite s acts req l (answer.Refused at why ver true) =
+    IsKept s acts req l (reply.Refused at why ver)
 TellsWrite s acts req l (answer.Stale tid) = IsStale s acts req l tid
 TellsWrite s acts req l other = Unit {0}
 
@@ -51,8 +54,10 @@ TellsRead s vector other = Unit {0}
 
 -- what an answer tells; only answers to clients tell of objects
 abbrev pub Tells : Store → List Act → Asked → Logged → Type 0
-Tells start acts (Write req) l = TellsWrite (state_at start acts l.place req.name) acts req l l.answer
-Tells start acts (Read client name vector) l = TellsRead (state_at start acts l.place name) vector l.answer
+Tells start acts (Write req) l =
+    TellsWrite (state_at start acts l.place req.name) acts req l l.answer
+Tells start acts (Read client name vector) l =
+    TellsRead (state_at start acts l.place name) vector l.answer
 Tells start acts other l = Unit {0}
 
 -- an answer fits what its call asked
@@ -67,7 +72,8 @@ TellsCall start acts l None = ⊥
 TellsCall start acts l (Some c) = Tells start acts c.asked l
 
 abbrev pub AreTrue : Store → List Call → Log → Type 0
-AreTrue start calls log = AllByRecursion (λ l. TellsCall start log.acts l (call_of calls l.call)) log.answers
+AreTrue start calls log =
+    AllByRecursion (λ l. TellsCall start log.acts l (call_of calls l.call)) log.answers
 
 -- All of it: the history of these calls is that of one plain store from this one on.
 pub record IsHistoryFrom (start : Store) (calls : List Call) (log : Log) : Type 0 where

@@ -1,11 +1,10 @@
 -- What follows from the definitions, in plain words.
 use Rattle.std.specs.Prelude.{◌≡◌, ◌≢◌, ◌≤◌, ℕ, suc, true, false, List, [], ◌∷◌, ◌++◌, length, Option, Some, None}
 use Rattle.std.specs.List.{AllByRecursion}
-use Rattle.obj_model.specs.declared.state.NameState.{NameState}
 use Rattle.obj_ops.specs.Stores.{Store, state_of}
 use Rattle.tier_chron.specs.Calls.{Call, call_of}
 use Rattle.tier_chron.specs.Fits.{AreTrue, Fits, IsHistoryFrom, TellsCall}
-use Rattle.tier_chron.specs.Legal.{AreFresh, Acts, IsLegal, IsOrdered}
+use Rattle.tier_chron.specs.Legal.{Acts, IsLegal, IsOrdered}
 use Rattle.tier_chron.specs.Logs.{Log, acted_log, answered_log, empty_log, is_opened}
 use Rattle.tier_chron.specs.Places.{act_at, behind, store_at, written_over}
 use Rattle.tier_chron.specs.Shapes.{HasNoAct, IsAnswered, IsAskedBy, IsShaped, is_fault}
@@ -31,12 +30,14 @@ PlacesStay log =
 -- each act, by its number, acted on the store at the place before it
 abbrev pub EachActed : Log → Type 0
 EachActed log =
-    (start : Store) → IsLegal start log → (place : ℕ) (a : Act) → act_at log.acts (suc place) ≡ Some a
+    (start : Store) → IsLegal start log → (place : ℕ) (a : Act)
+    → act_at log.acts (suc place) ≡ Some a
     → Acts (store_at start log.acts place) a
 
 -- ---- one act more
 
--- the opening that goes with an act: of its name, with the name's present state, exactly where the name has none yet
+-- the opening that goes with an act: of its name, with the name's present state, exactly where the
+-- name has none yet
 abbrev pub IsOpeningFor : Store → List First → Act → Option First → Type 0
 IsOpeningFor now opening a None = is_opened opening a.req.name ≡ true
 IsOpeningFor now opening a (Some f) =
@@ -50,8 +51,10 @@ IsNamedFor opening a (Some f) = (is_opened opening a.req.name ≡ false) × (f.n
 -- a legal history stays legal with one act more that is fresh with its reply, and with its opening
 abbrev pub ActKeepsLegal : Act → Type 0
 ActKeepsLegal a =
-    (start : Store) (log : Log) (first : Option First) → IsLegal start log → Acts (behind start log.acts) a
-    → IsOpeningFor (behind start log.acts) log.opening a first → IsLegal start (acted_log first a log)
+    (start : Store) (log : Log) (first : Option First) → IsLegal start log
+    → Acts (behind start log.acts) a
+    → IsOpeningFor (behind start log.acts) log.opening a first
+    → IsLegal start (acted_log first a log)
 
 -- the call may act now: it asked for this act, has none yet, and was answered nothing but a fault
 pub record MayAct (calls : List Call) (log : Log) (a : Act) : Type 0 where
@@ -80,7 +83,8 @@ AnswerStays a l =
 
 -- ---- one answer more
 
--- the answer may be logged now: its call has none, its place is not before the call's begin, and no act came since
+-- the answer may be logged now: its call has none, its place is not before the call's begin, and no
+-- act came since
 pub record MayLog (calls : List Call) (log : Log) (l : Logged) : Type 0 where
   pub unanswered : AllByRecursion (λ m. m.call ≢ l.call) log.answers
   pub seen : l.begin ≤ l.place
@@ -91,8 +95,10 @@ pub record MayLog (calls : List Call) (log : Log) (l : Logged) : Type 0 where
 -- a history goes on with one answer more
 abbrev pub AnswerKeeps : Logged → Type 0
 AnswerKeeps l =
-    (start : Store) (calls : List Call) (log : Log) → IsHistoryFrom start calls log → MayLog calls log l
-    → TellsCall start log.acts l (call_of calls l.call) → IsHistoryFrom start calls (answered_log l log)
+    (start : Store) (calls : List Call) (log : Log) → IsHistoryFrom start calls log
+    → MayLog calls log l
+    → TellsCall start log.acts l (call_of calls l.call)
+    → IsHistoryFrom start calls (answered_log l log)
 
 -- ---- what a caller may rely on
 
@@ -111,18 +117,21 @@ HaveOwnIds (a ∷ acts) = AllByRecursion (λ b. HaveOneId a b → ⊥) acts × H
 abbrev pub IdsActOnce : Log → Type 0
 IdsActOnce log = (start : Store) → IsLegal start log → HaveOwnIds log.acts
 
--- what was answered before a call begins has a place that the call's place does not fall behind: a call that begins now begins at the
+-- what was answered before a call begins has a place that the call's place does not fall behind: a
+-- call that begins now begins at the
 -- present number of acts, and no answer so far has a greater place
 abbrev pub SeenBefore : Log → Type 0
 SeenBefore log =
-    (begin : ℕ) → IsOrdered log → begin ≡ length log.acts → AllByRecursion (λ l. l.place ≤ begin) log.answers
+    (begin : ℕ) → IsOrdered log → begin ≡ length log.acts
+    → AllByRecursion (λ l. l.place ≤ begin) log.answers
 
 -- ---- one call more
 
 -- a history goes on when a call begins, under a new number and at the present number of acts
 abbrev pub CallKeeps : Log → Type 0
 CallKeeps log =
-    (start : Store) (calls : List Call) (c : Call) → IsHistoryFrom start calls log → call_of calls c.number ≡ None
+    (start : Store) (calls : List Call) (c : Call) → IsHistoryFrom start calls log
+    → call_of calls c.number ≡ None
     → c.begin ≡ length log.acts → IsHistoryFrom start (calls ++ c ∷ []) log
 
 -- a history in which nothing happened yet is one from every store, without calls

@@ -35,7 +35,8 @@ pub record AreOpened (opening : List First) (acts : List Act) : Type 0 where
   pub touched : AllByRecursion (λ f. IsTouched acts f.name) opening
   pub all : AllByRecursion (λ a. is_opened opening a.req.name ≡ true) acts
 
--- an answer's place lies between the acts that there were at its call's first step and when it was logged
+-- an answer's place lies between the acts that there were at its call's first step and when it was
+-- logged
 pub record IsPlaced (count : ℕ) (l : Logged) : Type 0 where
   pub seen : l.begin ≤ l.place
   pub done : l.place ≤ l.end
@@ -52,7 +53,8 @@ pub record IsOrdered (log : Log) : Type 0 where
   pub placed : AllByRecursion (IsPlaced (length log.acts)) log.answers
   pub in_order : AreInOrder log.answers
 
--- a history is legal from this store on: it is ordered, its acts acted one after another with the replies that they have, and its
+-- a history is legal from this store on: it is ordered, its acts acted one after another with the
+-- replies that they have, and its
 -- openings are the states that their names had at first
 pub record IsLegal (start : Store) (log : Log) : Type 0 where
   pub ordered : IsOrdered log

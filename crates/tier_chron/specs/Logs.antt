@@ -1,5 +1,5 @@
 -- A history as data.
-use Rattle.std.specs.Prelude.{◌≡◌, ℕ, List, [], ◌∷◌, ◌++◌, Bool, Option, Some, None, if◌then◌else◌, bytes_eq, is_some, refl}
+use Rattle.std.specs.Prelude.{ℕ, List, [], ◌∷◌, ◌++◌, Bool, Option, Some, None, if◌then◌else◌, bytes_eq, is_some, refl}
 use Rattle.std.specs.Coded.{Coded, code_by, coded×, coded_list, coded_ℕ}
 use Rattle.obj_model.specs.declared.state.NameState.{NameState}
 use Rattle.tier_chron.specs.declared.entries.First.{First}
@@ -22,7 +22,8 @@ empty_log = record { opening = []; acts = []; answers = [] }
 -- the opening of a name: its state before its first act
 abbrev pub opening_of : List First → List ℕ → Option NameState
 opening_of [] name = None
-opening_of (f ∷ opening) name = if bytes_eq name f.name then Some f.state else opening_of opening name
+opening_of (f ∷ opening) name =
+    if bytes_eq name f.name then Some f.state else opening_of opening name
 
 -- whether a name has an opening
 abbrev pub is_opened : List First → List ℕ → Bool
@@ -35,7 +36,8 @@ opened (Some f) opening = if is_opened opening f.name then opening else opening 
 
 -- one more act, with its name's opening
 abbrev pub acted_log : Option First → Act → Log → Log
-acted_log f a l = record { opening = opened f l.opening; acts = l.acts ++ a ∷ []; answers = l.answers }
+acted_log f a l =
+    record { opening = opened f l.opening; acts = l.acts ++ a ∷ []; answers = l.answers }
 
 -- one more answer
 abbrev pub answered_log : Logged → Log → Log

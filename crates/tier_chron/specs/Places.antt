@@ -1,5 +1,6 @@
--- The plain store at each place of a history. The store at which the history began is handed in everywhere.
-use Rattle.std.specs.Prelude.{ℕ, zero, suc, List, [], ◌∷◌, take, map, slice_get, Option, Some, None}
+-- The plain store at each place of a history. The store at which the history began is handed in
+-- everywhere.
+use Rattle.std.specs.Prelude.{ℕ, zero, suc, List, [], ◌∷◌, take, map, slice_get, Option, None}
 use Rattle.std.specs.FinMap as fin
 use Rattle.obj_model.specs.declared.req.Req.{Req}
 use Rattle.obj_model.specs.declared.state.NameState.{NameState}

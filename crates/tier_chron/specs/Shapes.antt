@@ -1,4 +1,5 @@
--- The shape of a history: what its entries show of one another and of the calls, whatever the stores were.
+-- The shape of a history: what its entries show of one another and of the calls, whatever the
+-- stores were.
 use Rattle.std.specs.Prelude.{◌≡◌, ◌≢◌, ◌≤◌, ℕ, Bool, true, false, ◌||◌, List, [], ◌∷◌, take, length, Option, Some, None}
 use Rattle.std.specs.List.{AllByRecursion}
 use Rattle.obj_model.specs.declared.reply.Reply.{Reply}
@@ -38,7 +39,8 @@ pub record IsBegun (acts : List Act) (c : Call) : Type 0 where
 
 -- ---- which answers a call may have
 
--- what any call may be answered: a fault, a number at its end, a start of the cache in between. Its act may still come.
+-- what any call may be answered: a fault, a number at its end, a start of the cache in between. Its
+-- act may still come.
 abbrev pub is_fault : Answer → Bool
 is_fault (answer.Worn limit) = true
 is_fault (answer.Restarted was now) = true
@@ -126,10 +128,12 @@ may_answer Start x = is_fault x
 abbrev pub own_act : Logged → Req → Reply → Act
 own_act l req given = record { call = l.call; line = l.line; req = req; reply = given }
 
--- Beside an answer to a write request: a reply that is not kept is the call's act, and the answer's place is the act's number, also where
+-- Beside an answer to a write request: a reply that is not kept is the call's act, and the answer's
+-- place is the act's number, also where
 -- other acts came before the answer; a call that was turned away has no act.
 abbrev pub StandsBeside : List Act → Req → Logged → Answer → Type 0
-StandsBeside acts req l (answer.Done ver false) = act_at acts l.place ≡ Some (own_act l req (reply.Done ver))
+StandsBeside acts req l (answer.Done ver false) =
+    act_at acts l.place ≡ Some (own_act l req (reply.Done ver))
 StandsBeside acts req l (answer.Refused at why ver false) =
     act_at acts l.place ≡ Some (own_act l req (reply.Refused at why ver))
 StandsBeside acts req l (answer.Blocked kind opid) = HasNoAct l.call acts
@@ -141,7 +145,8 @@ abbrev pub Stands : List Act → Asked → Logged → Type 0
 Stands acts (Write req) l = StandsBeside acts req l l.answer
 Stands acts other l = Unit {0}
 
--- an answer has its call's line and begin, is one that the call may have, and stands beside the right acts
+-- an answer has its call's line and begin, is one that the call may have, and stands beside the
+-- right acts
 pub record IsAnswerTo (acts : List Act) (l : Logged) (c : Call) : Type 0 where
   pub line : c.line ≡ Some l.line
   pub begin : c.begin ≡ l.begin

@@ -1,5 +1,5 @@
 -- How much the entries of a history weigh: 64 and the bytes that each carries.
-use Rattle.std.specs.Prelude.{ℕ, ◌+◌, ◌-◌, ◌^◌, min, List, [], ◌∷◌, length, map, sum_by, Option, Some, None}
+use Rattle.std.specs.Prelude.{ℕ, ◌+◌, ◌-◌, ◌^◌, min, List, length, sum_by, Option, Some, None}
 use Rattle.std.specs.FinMap as fin
 use Rattle.obj_model.specs.Names.{name_cmp}
 use Rattle.obj_model.specs.Vectors.{payload_of}
@@ -59,4 +59,5 @@ entries_of log = length log.opening + (length log.acts + length log.answers)
 
 abbrev pub bytes_of : Log → ℕ
 bytes_of log =
-    sum_by first_weight log.opening + (sum_by act_weight log.acts + sum_by logged_weight log.answers)
+    sum_by first_weight log.opening
+    + (sum_by act_weight log.acts + sum_by logged_weight log.answers)

@@ -10,7 +10,8 @@ pub enum AgentDid {
     Evicted { name: Name, seq: u64 },
     /// It wrote the state of this name, of this `seq`, back to the base.
     Flushed { name: Name, seq: u64 },
-    /// The state of `seq` `flushed` was written back, but the record had `now` by then and is still dirty.
+    /// The state of `seq` `flushed` was written back, but the record had `now` by then and is still
+    /// dirty.
     Again { name: Name, flushed: u64, now: u64 },
     /// There was nothing to do.
     Nothing,
@@ -19,9 +20,11 @@ pub enum AgentDid {
 /// What a call is answered.
 #[derive(Clone, Debug, Drop)]
 pub enum Answer {
-    /// The write vector was accepted, and the name has this version since; now, or earlier (`kept`).
+    /// The write vector was accepted, and the name has this version since; now, or earlier
+    /// (`kept`).
     Done { ver: u64, kept: bool },
-    /// The sub-operation at this place, counted from 0, was refused, at this version; now, or earlier (`kept`).
+    /// The sub-operation at this place, counted from 0, was refused, at this version; now, or
+    /// earlier (`kept`).
     Refused {
         at: u8,
         why: Why,
@@ -32,7 +35,8 @@ pub enum Answer {
     Values { ver: u64, outs: OutList },
     /// A later request of the client acted on the name, with this number.
     Stale { kept: u64 },
-    /// A number has come to its end, 2^62: the requests of the name, the operations, the calls, the epochs.
+    /// A number has come to its end, 2^62: the requests of the name, the operations, the calls, the
+    /// epochs.
     Worn { limit: u64 },
     /// Unfinished work of this kind and number stands on the name.
     Blocked { kind: Kind, opid: u64 },
@@ -46,7 +50,8 @@ pub enum Answer {
     Clean,
     /// The cache has no record of the name.
     Absent,
-    /// The state of `seq` `flushed` was written back, but the record had `now` by then and is still dirty.
+    /// The state of `seq` `flushed` was written back, but the record had `now` by then and is still
+    /// dirty.
     Again { flushed: u64, now: u64 },
     /// The clean record of this `seq` was taken out of the cache.
     Evicted { seq: u64 },

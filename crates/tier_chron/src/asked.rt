@@ -14,7 +14,8 @@ pub enum Asked {
         name: Name,
         vector: Vector,
     },
-    /// To write a name's record back to the base. A blocking flush keeps writers out; one with `begin_only`
+    /// To write a name's record back to the base. A blocking flush keeps writers out; one with
+    /// `begin_only`
     /// is answered when it has begun, and waits for its finish.
     Flush {
         name: Name,

@@ -18,7 +18,8 @@ pub struct Act {
     pub reply: Reply,
 }
 
-/// An answer, with its call and the call's line. Its place is the number of acts of the store that it speaks of.
+/// An answer, with its call and the call's line. Its place is the number of acts of the store that
+/// it speaks of.
 #[derive(Clone, Debug, Drop)]
 pub struct Logged {
     pub call: u64,

@@ -1,4 +1,5 @@
-//! The history of a group. It only grows. Memory for entries is taken before the step that pushes them, so that a
+//! The history of a group. It only grows. Memory for entries is taken before the step that pushes
+//! them, so that a
 //! push cannot fail; what the entries weigh is kept as a running sum.
 ghost use Rattle.std.specs.Prelude.{◌≡◌, ◌≤◌, ◌+◌, ◌-◌, Some, map, max, OnOk, OnErr};
 ghost use Rattle.std.specs.Option.{option_copied};
@@ -14,9 +15,11 @@ use obj_model::{Name, NameState, NoMemory};
 use std::alloc::Global;
 use std::marker::Model;
 
-/// What happened in a group: the openings of names, the acts and the answers, each in the order in which they came.
+/// What happened in a group: the openings of names, the acts and the answers, each in the order in
+/// which they came.
 ///
-/// Contracts see it as these three lists, and beside them `spare`: for how many pushes there is memory.
+/// Contracts see it as these three lists, and beside them `spare`: for how many pushes there is
+/// memory.
 #[derive(Drop)]
 pub struct History {
     opening: IndexMap<Name, NameState>,
@@ -42,7 +45,8 @@ impl Model for History {
       spare = h.room;
     } };
 
-    ghost invariant = { λ h. (h.bytes ≡ cut (bytes_of (log_of h.opening.entries h.acts.items h.answers.items)))
+    ghost invariant = { λ h. (h.bytes ≡ cut (bytes_of
+            (log_of h.opening.entries h.acts.items h.answers.items)))
         × (h.room ≤ spare h.opening) × (vec_len h.acts + h.room ≤ vec_capacity h.acts)
         × (vec_len h.answers + h.room ≤ vec_capacity h.answers) };
 }
@@ -77,10 +81,12 @@ impl History {
     }
 
     #[tactic(auto, using(crate::proofs::Openings::bytes_acted))]
-    /// Pushes an act, with the state that its name had before, where the name has no opening yet. It takes no memory.
+    /// Pushes an act, with the state that its name had before, where the name has no opening yet.
+    /// It takes no memory.
     pub fn push_act(&mut self, first: Option<First>, act: Act)
         requires { 1 ≤ self.old.spare }
-        ensures { self.new ≡ record { log = acted_log first act self.old.log; spare = self.old.spare - 1 } }
+        ensures { self.new ≡ record { log = acted_log first act self.old.log;
+            spare = self.old.spare - 1 } }
     {
         self.room -= 1;
         let weight = open(&mut self.opening, first).saturating_add(act_weight(&act));
@@ -91,7 +97,8 @@ impl History {
     /// Pushes an answer. It takes no memory.
     pub fn push_answer(&mut self, logged: Logged)
         requires { 1 ≤ self.old.spare }
-        ensures { self.new ≡ record { log = answered_log logged self.old.log; spare = self.old.spare - 1 } }
+        ensures { self.new ≡ record { log = answered_log logged self.old.log;
+            spare = self.old.spare - 1 } }
     {
         self.room -= 1;
         self.bytes = self.bytes.saturating_add(logged_weight(&logged));
@@ -99,7 +106,8 @@ impl History {
     }
 
     #[tactic(auto, using(crate::proofs::Openings::found_opening))]
-    /// The state that a name had before its first act, where an act touched it. It is found by an index.
+    /// The state that a name had before its first act, where an act touched it. It is found by an
+    /// index.
     pub fn opening_of(&self, name: &Name) -> Option<&NameState>
         ensures { option_copied result ≡ opening_of self.now.log.opening name.now }
     {
@@ -136,10 +144,12 @@ impl History {
     }
 }
 
-// Puts an opening behind the others, where its name has none yet, and answers what is added to their weight.
+// Puts an opening behind the others, where its name has none yet, and answers what is added to
+// their weight.
 fn open(opening: &mut IndexMap<Name, NameState>, first: Option<First>) -> u64
     requires { 1 ≤ spare opening.old }
-    ensures opened { map first_of opening.new.entries ≡ opened first (map first_of opening.old.entries) }
+    ensures opened { map first_of opening.new.entries ≡ opened first
+        (map first_of opening.old.entries) }
     ensures weight { result ≡ cut (opened_weight first (map first_of opening.old.entries)) }
     ensures room { spare opening.old ≤ spare opening.new + 1 }
 {
@@ -153,7 +163,8 @@ fn open(opening: &mut IndexMap<Name, NameState>, first: Option<First>) -> u64
 #[tactic(auto, using(crate::proofs::Openings::found_opened, crate::proofs::Openings::opened_new, crate::proofs::Openings::opened_old))]
 fn open_name(opening: &mut IndexMap<Name, NameState>, first: First) -> u64
     requires { 1 ≤ spare opening.old }
-    ensures opened { map first_of opening.new.entries ≡ opened (Some first) (map first_of opening.old.entries) }
+    ensures opened { map first_of opening.new.entries ≡ opened (Some first)
+        (map first_of opening.old.entries) }
     ensures weight { result ≡ cut (opened_weight (Some first) (map first_of opening.old.entries)) }
     ensures room { spare opening.old ≤ spare opening.new + 1 }
 {

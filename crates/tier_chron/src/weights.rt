@@ -1,4 +1,5 @@
-//! How much entries weigh: 64 and the bytes that each carries. Each sum stops at the greatest 64-bit number.
+//! How much entries weigh: 64 and the bytes that each carries. Each sum stops at the greatest
+//! 64-bit number.
 ghost use Rattle.std.specs.Prelude.{◌≡◌, length, map, sum_by};
 ghost use Rattle.tier_chron.specs.Weights.{act_weight, answer_payload, cut, first_weight, logged_weight, obj_weight, out_weight, pair_weight, table_weight};
 

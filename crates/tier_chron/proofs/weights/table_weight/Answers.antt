@@ -1,5 +1,5 @@
 -- Nothing is left at the end.
-use Rattle.std.proofs.Common.{◌≡◌, length, sum_by, ◌+◌, ◌-◌, ◌^◌, ◌≤◌, ap, sym, ◌∙◌, arith}
+use Rattle.std.proofs.Common.{◌≡◌, length, sum_by, ◌+◌, ap, sym, ◌∙◌, arith}
 use Rattle.tier_chron.specs.Weights.{cut, table_weight}
 use Rattle.tier_chron.proofs.weights.table_weight.Goals as goal
 

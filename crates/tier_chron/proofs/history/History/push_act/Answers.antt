@@ -1,5 +1,5 @@
 -- The running sum is that of the history with one more act.
-use Rattle.std.proofs.Common.{◌≡◌, arith}
+use Rattle.std.proofs.Common.{arith}
 use Rattle.tier_chron.proofs.Openings.{held_bytes}
 use Rattle.tier_chron.proofs.history.History.push_act.Goals as goal
 
