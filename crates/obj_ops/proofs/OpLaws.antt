@@ -14,8 +14,8 @@ use Rattle.obj_model.specs.declared.reply.Why.TheVariants.{TooBig}
 use Rattle.obj_model.specs.declared.out.Out.{Out}
 use Rattle.obj_model.specs.declared.out.Out.TheVariants.{Checked, Bytes}
 use Rattle.obj_ops.specs.Effects.{Change, Telling, made, within, put_body, part, written, resized, with_body, with_bytes, with_more, with_zeros, with_size}
-use Rattle.obj_ops.specs.Ops.{Step, Run, Refusal, leaves, tells, sub, telling, go_on, run_from, run}
-use Rattle.obj_ops.specs.OpLaws.{LookersChangeNothing, is_on_body, SameTables, TablesSurvive, FirstRefusalRefuses, WrittenIsRead}
+use Rattle.obj_ops.specs.Ops.{Step, Run, Refusal, left_by, leaves, tells, sub, telling, go_on, run_from, run}
+use Rattle.obj_ops.specs.OpLaws.{AppendsJoin, LookersChangeNothing, is_on_body, SameTables, TablesSurvive, FirstRefusalRefuses, WrittenIsRead}
 use Rattle.obj_ops.proofs.Bodies.{length-resized}
 use Rattle.obj_ops.proofs.Keeping.{ne-eqb}
 
@@ -137,3 +137,23 @@ written_read off bytes = λ ver o s some e.
     let is : record { obj = Some (record x { body = written off bytes x.body }); out = Checked } ≡ s = cc in
     subst (λ (s : Step). sub (Read off (length bytes)) ver s.obj ≡ Ok (record { obj = s.obj; out = Bytes bytes })) is
     (ap (λ b. Ok (record { obj = Some (record x { body = written off bytes x.body }); out = Bytes b })) (part_written off bytes x.body some))
+
+appended_by : (bytes : List ℕ) (x : Obj) (p : Option Obj) (far : Bool) → nat_lt body_limit (length (x.body ++ bytes)) ≡ far → left_by (leaves (with_more bytes x)) ≡ Ok p → p ≡ Some (record x { body = x.body ++ bytes })
+appended_by bytes x p true f e =
+    absurd (let g : left_by (leaves (Err (TooBig body_limit (length (x.body ++ bytes))))) ≡ Ok p = sym (ap (λ b. left_by (leaves (cond b (Err (TooBig body_limit (length (x.body ++ bytes)))) (put_body (x.body ++ bytes) x)))) f) ∙ e in cc)
+appended_by bytes x p false f e =
+    let g : left_by (leaves (put_body (x.body ++ bytes) x)) ≡ Ok p = sym (ap (λ b. left_by (leaves (cond b (Err (TooBig body_limit (length (x.body ++ bytes)))) (put_body (x.body ++ bytes) x)))) f) ∙ e in cc
+
+-- what an accepted append leaves
+appended : (bytes : List ℕ) (x : Obj) (p : Option Obj) → left_by (leaves (with_more bytes x)) ≡ Ok p → p ≡ Some (record x { body = x.body ++ bytes })
+appended bytes x p e = appended_by bytes x p (nat_lt body_limit (length (x.body ++ bytes))) refl e
+
+-- two appends are one
+pub appends_join : (first second : List ℕ) → AppendsJoin first second
+appends_join first second = λ ver o p q r e f g.
+    let x = made o in
+    let one : p ≡ Some (record x { body = x.body ++ first }) = appended first x p e in
+    let two : q ≡ Some (record x { body = x.body ++ first ++ second }) =
+    appended second (record x { body = x.body ++ first }) q (subst (λ p. left_by (leaves (with_more second (made p))) ≡ Ok q) one f) in
+    let both : r ≡ Some (record x { body = x.body ++ (first ++ second) }) = appended (first ++ second) x r g in
+    two ∙ ap (λ b. Some (record x { body = b })) (append_assoc x.body first second) ∙ sym both

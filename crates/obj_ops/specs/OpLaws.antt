@@ -9,7 +9,7 @@ use Rattle.obj_model.specs.declared.state.Obj.{Obj}
 use Rattle.obj_model.specs.declared.reply.Why.{Why}
 use Rattle.obj_model.specs.declared.out.Out.TheVariants.{Bytes}
 use Rattle.obj_ops.specs.Effects.{empty_obj, made}
-use Rattle.obj_ops.specs.Ops.{Step, Run, Refusal, sub, run}
+use Rattle.obj_ops.specs.Ops.{Step, Run, Refusal, left_by, sub, run}
 use Rattle.obj_ops.specs.Acts.{ran_of}
 use Rattle.obj_ops.specs.declared.run.Ran.TheVariants.{Accepted}
 
@@ -38,6 +38,12 @@ TablesSurvive op = (ver : ℕ) (x : Obj) (s : Step) → is_on_body op ≡ true �
 -- an object that is removed and made again has nothing of what it had
 abbrev pub RemovalTakesAll : ℕ → Type 0
 RemovalTakesAll ver = (x : Obj) → ran_of (run ver (Remove ∷ Create ∷ []) (Some x)) ≡ Accepted (Some empty_obj)
+
+-- two appends leave what one append of both leaves
+abbrev pub AppendsJoin : List ℕ → List ℕ → Type 0
+AppendsJoin first second =
+    (ver : ℕ) (o p q r : Option Obj) → left_by (sub (Append first) ver o) ≡ Ok p → left_by (sub (Append second) ver p) ≡ Ok q
+    → left_by (sub (Append (first ++ second)) ver o) ≡ Ok r → q ≡ r
 
 -- what was written is read back
 abbrev pub WrittenIsRead : ℕ → List ℕ → Type 0

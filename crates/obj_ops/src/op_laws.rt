@@ -1,5 +1,5 @@
 //! What follows from the table of sub-operations, in plain words. These calls do nothing: their contracts are the laws.
-ghost use Rattle.obj_ops.specs.OpLaws.{FirstRefusalRefuses, LookersChangeNothing, RemovalTakesAll, TablesSurvive, WrittenIsRead};
+ghost use Rattle.obj_ops.specs.OpLaws.{AppendsJoin, FirstRefusalRefuses, LookersChangeNothing, RemovalTakesAll, TablesSurvive, WrittenIsRead};
 
 use obj_model::{Bytes, OpList, SubOp};
 
@@ -31,4 +31,10 @@ pub fn removal_takes_all(_ver: u64)
 #[tactic(auto, using(crate::proofs::OpLaws::written_read))]
 pub fn written_is_read(_off: u64, _bytes: &Bytes)
     ensures { WrittenIsRead _off _bytes.now }
+{}
+
+/// Two appends leave what one append of both leaves.
+#[tactic(auto, using(crate::proofs::OpLaws::appends_join))]
+pub fn appends_join(_first: &Bytes, _second: &Bytes)
+    ensures { AppendsJoin _first.now _second.now }
 {}
