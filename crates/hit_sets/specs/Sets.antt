@@ -1,5 +1,5 @@
 -- What a hit set contains, by the names whose insertion changed it.
-use Rattle.std.specs.Prelude.{ℕ, ◌+◌, ◌*◌, ◌/◌, ◌%◌, ◌^◌, ◌==◌, Bool, List, [], ◌∷◌, ◌++◌, length, take, bit_or, nat_le, if◌then◌else◌}
+use Rattle.std.specs.Prelude.{ℕ, ◌+◌, ◌*◌, ◌/◌, ◌%◌, ◌^◌, ◌==◌, Bool, List, [], ◌∷◌, ◌++◌, length, take, bit_or, nat_le, nat_lt, if◌then◌else◌, Option, Some, None}
 use Rattle.std.specs.List.{list_any, list_all}
 use Rattle.std.specs.BTreeMap.{is_at}
 use Rattle.std.specs.Ordering.{nat_cmp}
@@ -41,6 +41,10 @@ hash_place bits hash rank = (hash % 2 ^ 32 + rank * bit_or (hash / 2 ^ 32) 1) % 
 -- a place of a name in a Bloom set with this rate
 abbrev pub place : ℕ → List ℕ → ℕ → ℕ
 place fpp n rank = hash_place (bits_of fpp) (hash_of n) rank
+
+-- the place of this rank of a name, where the name has one of this rank
+abbrev pub place_at : ℕ → List ℕ → ℕ → Option ℕ
+place_at fpp n rank = if nat_lt rank (length (ranks_of fpp)) then Some (place fpp n rank) else None
 
 -- a hash sets this bit
 abbrev pub is_set_by : ℕ → ℕ → ℕ → Bool

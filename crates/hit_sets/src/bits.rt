@@ -1,7 +1,10 @@
 //! A row of bits in words of 64, and the places of a hash in it.
 ghost use Rattle.std.specs.Prelude.{◌≡◌, ℕ, ◌<◌, ◌*◌, ◌/◌, ◌^◌, ◌||◌, ◌==◌, bit_or, length};
-ghost use Rattle.hit_sets.specs.Sets.{bits_of, ranks_of, hash_place, is_set_by};
+ghost use Rattle.hit_sets.specs.Sets.{bits_of, ranks_of, hash_place, place_at};
 ghost use Rattle.hit_sets.specs.Steps.{bit_of};
+
+use name_hash::fnv1a;
+use obj_model::Name;
 
 // The numbers of the places of a name.
 const RANKS: [u64; 10] = [0, 1, 2, 3, 4, 5, 6, 7, 8, 9];
@@ -47,6 +50,30 @@ pub(crate) fn place(size: u64, hash: u64, rank: u64) -> u64
     ensures within { result < size }
 {
     (hash % HALF + rank * u64::from(stride(hash))) % size
+}
+
+// How many places a name has in a set with this rate.
+fn rank_count(fpp: u32) -> u32
+    ensures value { result ≡ length (ranks_of fpp) }
+    ensures few { result < 16 }
+{
+    match fpp {
+        1_000 => 10,
+        10_000 => 7,
+        _ => 4,
+    }
+}
+
+/// The place of this rank, from 0, of a name in a Bloom set with this rate of false positives, in
+/// millionths; none where the name has no place of this rank.
+pub fn bloom_place(fpp: u32, name: &Name, rank: u32) -> Option<u64>
+    ensures { result ≡ place_at fpp name.now rank }
+{
+    if rank < rank_count(fpp) {
+        Some(place(size_of(fpp), fnv1a(name.bytes()), u64::from(rank)))
+    } else {
+        None
+    }
 }
 
 /// Whether a bit is set.

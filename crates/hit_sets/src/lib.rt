@@ -15,5 +15,6 @@ mod kind;
 mod past;
 mod set;
 
+pub use bits::bloom_place;
 pub use kind::HitKind;
 pub use set::{FULL, HitSet};
