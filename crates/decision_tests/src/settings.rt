@@ -5,25 +5,6 @@ use std::alloc::Global;
 use std::process::Abort;
 use std::test::Fail;
 
-const DEFAULTS: PoolValues = PoolValues {
-    cache_mode: Mode::Writeback,
-    hit_set_type: HitType::Bloom,
-    hit_set_count: 4,
-    hit_set_period: 1_200,
-    hit_set_fpp: 50_000,
-    hit_set_grade_decay_rate: 20,
-    hit_set_search_last_n: 1,
-    target_max_bytes: 0,
-    target_max_objects: 0,
-    cache_target_dirty_ratio: 400_000,
-    cache_target_dirty_high_ratio: 600_000,
-    cache_target_full_ratio: 800_000,
-    cache_min_flush_age: 0,
-    cache_min_evict_age: 0,
-    min_read_recency_for_promote: 1,
-    min_write_recency_for_promote: 1,
-};
-
 // What is told, as the program prints it: `notjson`, `unknown KEY`, `bad KEY`, or nothing.
 fn told(alloc: Global, bytes: &[u8]) -> Result<String, Fail> {
     let (word, key) = match read_values(alloc, bytes) {
@@ -37,78 +18,77 @@ fn told(alloc: Global, bytes: &[u8]) -> Result<String, Fail> {
     Ok(format!(in alloc; "{word} {key}")?)
 }
 
+// A text and what is told of it, on each line.
+const TOLD: &str = r#"{} => 
+ { }  => 
+  => notjson
+[] => notjson
+null => notjson
+7 => notjson
+{} {} => notjson
+{"hit_set_count":5,} => notjson
+{hit_set_count:5} => notjson
+{"a":"\ud800"} => notjson
+{"hit_set_count":1e400} => notjson
+{"hit_set_count":05} => notjson
+{"hit_set_count":+5} => notjson
+{"hit_set_count":99} => bad hit_set_count
+{"a":1,"hit_set_count":99} => unknown a
+{"hit_set_count":99,"a":1} => unknown a
+{"hit_set_count":99,"z":1} => bad hit_set_count
+{"b":1,"a":1,"B":1} => unknown B
+{"":1} => unknown 
+{"Hit_set_count":5} => unknown Hit_set_count
+{"hit_set_count ":5} => unknown hit_set_count 
+{"hit_set_count":1.0} => bad hit_set_count
+{"hit_set_count":1e0} => bad hit_set_count
+{"hit_set_fpp":1e4} => bad hit_set_fpp
+{"hit_set_count":-0} => bad hit_set_count
+{"hit_set_count":-1} => bad hit_set_count
+{"hit_set_count":4294967300} => bad hit_set_count
+{"hit_set_count":"5"} => bad hit_set_count
+{"hit_set_count":null} => bad hit_set_count
+{"hit_set_count":true} => bad hit_set_count
+{"hit_set_count":[5]} => bad hit_set_count
+{"hit_set_count":99,"hit_set_count":5} => 
+{"cache_mode":"forward"} => bad cache_mode
+{"cache_mode":"Proxy"} => bad cache_mode
+{"cache_mode":0} => bad cache_mode
+{"hit_set_type":"explicit"} => bad hit_set_type
+{"hit_set_type":["bloom"]} => bad hit_set_type
+{"hit_set_fpp":0} => bad hit_set_fpp
+{"hit_set_fpp":999} => bad hit_set_fpp
+{"hit_set_fpp":10001} => bad hit_set_fpp
+{"hit_set_fpp":50001} => bad hit_set_fpp
+{"hit_set_fpp":0.05} => bad hit_set_fpp"#;
+
+fn tells(rt: &impl Abort, alloc: Global, bytes: &[u8], want: &str) -> Result<(), Fail> {
+    let told = told(alloc, bytes)?;
+    assert_eq!(rt; told.as_str(), want);
+    Ok(())
+}
+
 #[test]
 fn what_is_told(rt: HostRuntime) -> Result<(), Fail> {
-    let rows: [(&[u8], &str); 52] = [
-        (b"", ""),
-        (b"{}", ""),
-        (b" { } ", ""),
-        (b" ", "notjson"),
-        (b"[]", "notjson"),
-        (b"null", "notjson"),
-        (b"7", "notjson"),
-        (b"{} {}", "notjson"),
-        (b"{\"hit_set_count\":5,}", "notjson"),
-        (b"{hit_set_count:5}", "notjson"),
-        (b"\xef\xbb\xbf{}", "notjson"),
-        (b"{\"\xff\":1}", "notjson"),
-        (b"{\"a\":\"\\ud800\"}", "notjson"),
-        (b"{\"hit_set_count\":1e400}", "notjson"),
-        (b"{\"hit_set_count\":05}", "notjson"),
-        (b"{\"hit_set_count\":+5}", "notjson"),
-        (b"{\"hit_set_count\":99}", "bad hit_set_count"),
-        (b"{\"a\":1,\"hit_set_count\":99}", "unknown a"),
-        (b"{\"hit_set_count\":99,\"a\":1}", "unknown a"),
-        (b"{\"hit_set_count\":99,\"z\":1}", "bad hit_set_count"),
-        (
-            b"{\"z\":1,\"hit_set_period\":0,\"hit_set_count\":99}",
-            "bad hit_set_count",
-        ),
-        (b"{\"b\":1,\"a\":1,\"B\":1}", "unknown B"),
-        (b"{\"\":1}", "unknown "),
-        (b"{\"\\u0061\\n\":1}", "unknown a\n"),
-        (b"{\"\xc3\xa9\":1,\"z\":1}", "unknown z"),
-        (b"{\"\xc3\xa9\":1}", "unknown \u{e9}"),
-        (b"{\"Hit_set_count\":5}", "unknown Hit_set_count"),
-        (b"{\"hit_set_count \":5}", "unknown hit_set_count "),
-        (b"{\"hit_set_count\":1.0}", "bad hit_set_count"),
-        (b"{\"hit_set_count\":1e0}", "bad hit_set_count"),
-        (b"{\"hit_set_fpp\":1e4}", "bad hit_set_fpp"),
-        (b"{\"hit_set_count\":-0}", "bad hit_set_count"),
-        (b"{\"hit_set_count\":-1}", "bad hit_set_count"),
-        (b"{\"hit_set_count\":4294967300}", "bad hit_set_count"),
-        (
-            b"{\"hit_set_count\":18446744073709551616}",
-            "bad hit_set_count",
-        ),
-        (
-            b"{\"hit_set_count\":18446744073709551620}",
-            "bad hit_set_count",
-        ),
-        (b"{\"hit_set_count\":\"5\"}", "bad hit_set_count"),
-        (b"{\"hit_set_count\":null}", "bad hit_set_count"),
-        (b"{\"hit_set_count\":true}", "bad hit_set_count"),
-        (b"{\"hit_set_count\":[5]}", "bad hit_set_count"),
-        (
-            b"{\"hit_set_count\":5,\"hit_set_count\":99}",
-            "bad hit_set_count",
-        ),
-        (b"{\"hit_set_count\":99,\"hit_set_count\":5}", ""),
-        (b"{\"cache_mode\":\"forward\"}", "bad cache_mode"),
-        (b"{\"cache_mode\":\"Proxy\"}", "bad cache_mode"),
-        (b"{\"cache_mode\":0}", "bad cache_mode"),
-        (b"{\"hit_set_type\":\"explicit\"}", "bad hit_set_type"),
-        (b"{\"hit_set_type\":[\"bloom\"]}", "bad hit_set_type"),
-        (b"{\"hit_set_fpp\":0}", "bad hit_set_fpp"),
-        (b"{\"hit_set_fpp\":999}", "bad hit_set_fpp"),
-        (b"{\"hit_set_fpp\":10001}", "bad hit_set_fpp"),
-        (b"{\"hit_set_fpp\":50001}", "bad hit_set_fpp"),
-        (b"{\"hit_set_fpp\":0.05}", "bad hit_set_fpp"),
-    ];
-    for (bytes, want) in rows {
-        let told = told(rt.alloc(), bytes)?;
-        assert_eq!(rt; told.as_str(), want);
+    let alloc = rt.alloc();
+    let mut rows = 0u32;
+    for line in TOLD.lines() {
+        let (text, want) = line.split_once(" => ").ok_or("a row")?;
+        tells(&rt, alloc, text.as_bytes(), want)?;
+        rows = rows.saturating_add(1);
     }
+    assert_eq!(rt; rows, 42);
+    Ok(())
+}
+
+#[test]
+fn bytes_beyond_ascii(rt: HostRuntime) -> Result<(), Fail> {
+    let alloc = rt.alloc();
+    tells(&rt, alloc, b"\xef\xbb\xbf{}", "notjson")?;
+    tells(&rt, alloc, b"{\"\xff\":1}", "notjson")?;
+    tells(&rt, alloc, b"{\"\\u0061\\n\":1}", "unknown a\n")?;
+    tells(&rt, alloc, b"{\"\xc3\xa9\":1,\"z\":1}", "unknown z")?;
+    tells(&rt, alloc, b"{\"\xc3\xa9\":1}", "unknown \u{e9}")?;
     Ok(())
 }
 
@@ -122,53 +102,77 @@ fn text(alloc: Global, key: &str, value: &str) -> Result<String, Fail> {
     Ok(text)
 }
 
-// The value of a key, and with it set to its default no other key is.
-fn number(values: &PoolValues, key: &str) -> Option<(u64, PoolValues)> {
-    let mut rest = *values;
-    let number = match key {
-        "hit_set_count" => u64::from(std::mem::replace(&mut rest.hit_set_count, 4)),
-        "hit_set_period" => std::mem::replace(&mut rest.hit_set_period, 1_200),
-        "hit_set_fpp" => u64::from(std::mem::replace(&mut rest.hit_set_fpp, 50_000)),
-        "hit_set_grade_decay_rate" => {
-            u64::from(std::mem::replace(&mut rest.hit_set_grade_decay_rate, 20))
-        }
-        "hit_set_search_last_n" => {
-            u64::from(std::mem::replace(&mut rest.hit_set_search_last_n, 1))
-        }
-        "target_max_bytes" => std::mem::replace(&mut rest.target_max_bytes, 0),
-        "target_max_objects" => std::mem::replace(&mut rest.target_max_objects, 0),
-        "cache_target_dirty_ratio" => {
-            std::mem::replace(&mut rest.cache_target_dirty_ratio, 400_000)
-        }
-        "cache_target_dirty_high_ratio" => {
-            std::mem::replace(&mut rest.cache_target_dirty_high_ratio, 600_000)
-        }
-        "cache_target_full_ratio" => {
-            std::mem::replace(&mut rest.cache_target_full_ratio, 800_000)
-        }
-        "cache_min_flush_age" => std::mem::replace(&mut rest.cache_min_flush_age, 0),
-        "cache_min_evict_age" => std::mem::replace(&mut rest.cache_min_evict_age, 0),
-        "min_read_recency_for_promote" => {
-            u64::from(std::mem::replace(&mut rest.min_read_recency_for_promote, 1))
-        }
-        "min_write_recency_for_promote" => {
-            u64::from(std::mem::replace(&mut rest.min_write_recency_for_promote, 1))
-        }
-        _ => return None,
-    };
-    Some((number, rest))
+const KEYS: [&str; 14] = [
+    "hit_set_count",
+    "hit_set_period",
+    "hit_set_fpp",
+    "hit_set_grade_decay_rate",
+    "hit_set_search_last_n",
+    "target_max_bytes",
+    "target_max_objects",
+    "cache_target_dirty_ratio",
+    "cache_target_dirty_high_ratio",
+    "cache_target_full_ratio",
+    "cache_min_flush_age",
+    "cache_min_evict_age",
+    "min_read_recency_for_promote",
+    "min_write_recency_for_promote",
+];
+
+// The greatest numbers that these keys take, and what they are where they are not given.
+const MOST: [u64; 14] = [
+    64,
+    4_294_967_295,
+    50_000,
+    100,
+    64,
+    4_611_686_018_427_387_904,
+    4_611_686_018_427_387_904,
+    1_000_000,
+    1_000_000,
+    1_000_000,
+    4_294_967_295,
+    4_294_967_295,
+    65,
+    65,
+];
+
+const USUAL: [u64; 14] = [
+    4, 1_200, 50_000, 20, 1, 0, 0, 400_000, 600_000, 800_000, 0, 0, 1, 1,
+];
+
+// The numbers of these keys.
+fn numbers(values: &PoolValues) -> [u64; 14] {
+    [
+        u64::from(values.hit_set_count),
+        values.hit_set_period,
+        u64::from(values.hit_set_fpp),
+        u64::from(values.hit_set_grade_decay_rate),
+        u64::from(values.hit_set_search_last_n),
+        values.target_max_bytes,
+        values.target_max_objects,
+        values.cache_target_dirty_ratio,
+        values.cache_target_dirty_high_ratio,
+        values.cache_target_full_ratio,
+        values.cache_min_flush_age,
+        values.cache_min_evict_age,
+        u64::from(values.min_read_recency_for_promote),
+        u64::from(values.min_write_recency_for_promote),
+    ]
 }
 
-// The key takes this number and nothing else changes.
+// The key takes this number, and every other key has its default.
 fn takes(rt: &impl Abort, alloc: Global, key: &str, value: u64) -> Result<(), Fail> {
     let digits = format!(in alloc; "{value}")?;
     let text = text(alloc, key, digits.as_str())?;
     let values = read_values(alloc, text.as_bytes()).ok().ok_or("values")?;
-    assert_eq!(rt;
-        number(&values, key),
-        Some((value, DEFAULTS)),
-        "{key} {value}"
-    );
+    let mut found = false;
+    for ((other, number), usual) in KEYS.iter().zip(&numbers(&values)).zip(&USUAL) {
+        let want = if *other == key { value } else { *usual };
+        assert_eq!(rt; *number, want, "{key} {value}");
+        found = found || *other == key;
+    }
+    assert!(rt; found);
     Ok(())
 }
 
@@ -176,86 +180,73 @@ fn takes(rt: &impl Abort, alloc: Global, key: &str, value: u64) -> Result<(), Fa
 fn refuses(rt: &impl Abort, alloc: Global, key: &str, value: u64) -> Result<(), Fail> {
     let digits = format!(in alloc; "{value}")?;
     let text = text(alloc, key, digits.as_str())?;
-    let told = told(alloc, text.as_bytes())?;
     let want = format!(in alloc; "bad {key}")?;
-    assert_eq!(rt; told.as_str(), want.as_str());
-    Ok(())
+    tells(rt, alloc, text.as_bytes(), want.as_str())
 }
 
 #[test]
 fn the_ends_of_each_range(rt: HostRuntime) -> Result<(), Fail> {
     let alloc = rt.alloc();
-    let rows: [(&str, u64); 13] = [
-        ("hit_set_count", 64),
-        ("hit_set_period", 4_294_967_295),
-        ("hit_set_grade_decay_rate", 100),
-        ("hit_set_search_last_n", 64),
-        ("target_max_bytes", 4_611_686_018_427_387_904),
-        ("target_max_objects", 4_611_686_018_427_387_904),
-        ("cache_target_dirty_ratio", 1_000_000),
-        ("cache_target_dirty_high_ratio", 1_000_000),
-        ("cache_target_full_ratio", 1_000_000),
-        ("cache_min_flush_age", 4_294_967_295),
-        ("cache_min_evict_age", 4_294_967_295),
-        ("min_read_recency_for_promote", 65),
-        ("min_write_recency_for_promote", 65),
-    ];
-    for (key, most) in rows {
-        takes(&rt, alloc, key, most)?;
-        takes(&rt, alloc, key, 1)?;
+    for (key, most) in KEYS.iter().zip(&MOST) {
+        takes(&rt, alloc, key, *most)?;
         refuses(&rt, alloc, key, most.saturating_add(1))?;
-        if key == "hit_set_period" {
+        if *key == "hit_set_period" || *key == "hit_set_fpp" {
             refuses(&rt, alloc, key, 0)?;
         } else {
             takes(&rt, alloc, key, 0)?;
+            takes(&rt, alloc, key, 1)?;
         }
     }
-    for rate in [50_000u64, 10_000, 1_000] {
-        takes(&rt, alloc, "hit_set_fpp", rate)?;
-    }
+    takes(&rt, alloc, "hit_set_period", 1)?;
+    takes(&rt, alloc, "hit_set_fpp", 10_000)?;
+    takes(&rt, alloc, "hit_set_fpp", 1_000)?;
+    Ok(())
+}
+
+// The bytes set this mode, this kind of hit sets and this count of them.
+fn sets(
+    rt: &impl Abort,
+    alloc: Global,
+    bytes: &[u8],
+    mode: Mode,
+    hit_type: HitType,
+    count: u32,
+) -> Result<(), Fail> {
+    let values = read_values(alloc, bytes).ok().ok_or("values")?;
+    assert!(rt; values.cache_mode == mode && values.hit_set_type == hit_type);
+    assert_eq!(rt; values.hit_set_count, count);
     Ok(())
 }
 
 #[test]
 fn words_and_last_values(rt: HostRuntime) -> Result<(), Fail> {
-    let of = |cache_mode: Mode, hit_set_type: HitType, hit_set_count: u32| PoolValues {
-        cache_mode,
-        hit_set_type,
-        hit_set_count,
-        ..DEFAULTS
-    };
-    let rows: [(&[u8], PoolValues); 8] = [
-        (b"", DEFAULTS),
-        (b"{}", DEFAULTS),
-        (
-            b"{\"cache_mode\":\"readproxy\"}",
-            of(Mode::Readproxy, HitType::Bloom, 4),
-        ),
-        (
-            b"{\"cache_mode\":\"pr\\u006fxy\"}",
-            of(Mode::Proxy, HitType::Bloom, 4),
-        ),
-        (
-            b"{\"cache_mode\":\"proxy\",\"cache_mode\":\"writeback\"}",
-            DEFAULTS,
-        ),
-        (
-            b"{\"hit_set_type\":\"explicit_hash\"}",
-            of(Mode::Writeback, HitType::ExplicitHash, 4),
-        ),
-        (
-            b"{\"hit_set_type\":\"explicit_object\",\"hit_set_count\":0}",
-            of(Mode::Writeback, HitType::ExplicitObject, 0),
-        ),
-        (
-            b"{\"hit_set_count\":[],\"hit_set_type\":\"bloom\",\"hit_set_count\":7}",
-            of(Mode::Writeback, HitType::Bloom, 7),
-        ),
-    ];
-    for (bytes, want) in rows {
-        let values = read_values(rt.alloc(), bytes).ok().ok_or("values")?;
-        assert_eq!(rt; values, want);
-    }
+    let alloc = rt.alloc();
+    let (back, bloom) = (Mode::Writeback, HitType::Bloom);
+    sets(&rt, alloc, b"", back, bloom, 4)?;
+    sets(
+        &rt,
+        alloc,
+        b"{\"cache_mode\":\"readproxy\"}",
+        Mode::Readproxy,
+        bloom,
+        4,
+    )?;
+    sets(
+        &rt,
+        alloc,
+        b"{\"cache_mode\":\"pr\\u006fxy\"}",
+        Mode::Proxy,
+        bloom,
+        4,
+    )?;
+    let twice = b"{\"cache_mode\":\"proxy\",\"cache_mode\":\"writeback\"}";
+    sets(&rt, alloc, twice, back, bloom, 4)?;
+    let hashes = b"{\"hit_set_type\":\"explicit_hash\"}";
+    sets(&rt, alloc, hashes, back, HitType::ExplicitHash, 4)?;
+    let objects = b"{\"hit_set_type\":\"explicit_object\",\"hit_set_count\":0}";
+    sets(&rt, alloc, objects, back, HitType::ExplicitObject, 0)?;
+    let last = b"{\"hit_set_count\":[],\"hit_set_type\":\"bloom\",\"hit_set_count\":7}";
+    sets(&rt, alloc, last, back, bloom, 7)?;
     Ok(())
 }
 
