@@ -1,0 +1,4 @@
+pub mod Pushed
+pub mod Words
+pub mod Filters
+pub mod Laws

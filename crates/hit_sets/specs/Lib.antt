@@ -1,0 +1,4 @@
+pub mod Past
+pub mod Sets
+pub mod Steps
+pub mod Marks
