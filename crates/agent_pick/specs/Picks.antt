@@ -1,6 +1,6 @@
 -- The pick: the first row that qualifies, in the cyclic order of names behind the cursor.
 use Rattle.std.specs.Prelude.{ℕ, ◌+◌, Bool, List, Option, Some, None, length, take, drop, slice_get, if◌then◌else◌}
-use Rattle.std.specs.List.{position, position_or_len}
+use Rattle.std.specs.List.{position}
 use Rattle.std.specs.Option.{option_or, option_map}
 use Rattle.std.specs.Ordering.{is_lt}
 use Rattle.obj_model.specs.Names.{name_cmp}
@@ -14,10 +14,15 @@ use Rattle.agent_pick.specs.Rules.{qualifies}
 abbrev pub is_behind : List ℕ → Row → Bool
 is_behind cursor r = is_lt (name_cmp cursor r.name)
 
+-- the place, or the end of the rows where there is none
+abbrev pub or_end : List Row → Option ℕ → ℕ
+or_end rows (Some place) = place
+or_end rows None = length rows
+
 -- how many rows are passed over at first: those up to the cursor, none without a cursor
 abbrev pub start_of : Option (List ℕ) → List Row → ℕ
 start_of None rows = 0
-start_of (Some cursor) rows = position_or_len (is_behind cursor) rows
+start_of (Some cursor) rows = or_end rows (position (is_behind cursor) rows)
 
 -- the first place from the start on at which the test holds, else the first before it
 abbrev pub first_from : (Row → Bool) → ℕ → List Row → Option ℕ

@@ -37,14 +37,14 @@ flushes flush.High mode aged = true
 -- what is asked of a dirty record
 abbrev pub wants_flush : Rule → Row → Bool
 wants_flush rule r =
-    flushes rule.modes.flush rule.modes.evict (is_aged r.mtime rule.values.cache_min_flush_age rule.now)
+    flushes rule.modes.flush rule.modes.evict (is_aged r.mtime rule.values.cache_min_flush_age rule.moment)
 
 -- what is asked of a clean record among these
 abbrev pub wants_evict : List Row → Rule → Row → Bool
 wants_evict rows rule r =
     evicts
         rule.modes.evict
-        (is_aged r.mtime rule.values.cache_min_evict_age rule.now)
+        (is_aged r.mtime rule.values.cache_min_evict_age rule.moment)
         (is_cold rows rule.modes.effort r.temperature)
 
 -- a row qualifies: it is not busy, and it is flushed where it is dirty and evicted where it is clean

@@ -3,7 +3,7 @@ ghost use Rattle.std.specs.Prelude.{◌≡◌, ◌<◌, ◌≤◌, length};
 ghost use Rattle.std.specs.List.{position};
 ghost use Rattle.std.specs.Option.{option_copied};
 ghost use Rattle.agent_pick.specs.Rules.{evicts, flushes, is_aged, qualifies, wants_evict, wants_flush};
-ghost use Rattle.agent_pick.specs.Picks.{first_from, pick_of, start_of};
+ghost use Rattle.agent_pick.specs.Picks.{first_from, is_behind, pick_of, start_of};
 ghost use Rattle.agent_pick.specs.Steps.{IsLimit};
 
 use crate::temperatures::cold_limit;
@@ -30,12 +30,12 @@ pub fn pick(
     values: &PoolValues,
     now: u64,
 ) -> Chosen
-    ensures { result ≡ pick_of rows.now (option_copied cursor.entry) (record { modes = modes.now; values = values.now; now = now }) }
+    ensures { result ≡ pick_of rows.now (option_copied cursor.entry) (record { modes = modes.now; values = values.now; moment = now }) }
 {
     if rows.is_empty() {
         return Chosen::Nothing;
     }
-    let rule = Rule { modes: *modes, values: *values, now };
+    let rule = Rule { modes: *modes, values: *values, moment: now };
     let limit = limit_for(rows, &rule);
     match first_place(rows, start_at(rows, cursor), &rule, limit) {
         Some(place) if rows[place].dirty => Chosen::Flush(place),
@@ -62,8 +62,25 @@ fn start_at(rows: &[Row], cursor: Option<&Name>) -> usize
 {
     match cursor {
         None => 0,
-        Some(cursor) => rows.iter().position(|row| *cursor < row.name).unwrap_or(rows.len()),
+        Some(cursor) => match first_behind(rows, cursor) {
+            Some(place) => place,
+            None => rows.len(),
+        },
     }
+}
+
+// The first row behind the cursor.
+fn first_behind(rows: &[Row], cursor: &Name) -> Option<usize>
+    ensures { result ≡ position (is_behind cursor.now) rows.now }
+{
+    rows.iter().position(|row| comes_behind(row, cursor))
+}
+
+// Whether a row comes behind the cursor.
+fn comes_behind(row: &Row, cursor: &Name) -> bool
+    ensures { result ≡ is_behind cursor.now row.now }
+{
+    *cursor < row.name
 }
 
 // The first place from the start on that qualifies, else the first before it.
@@ -101,7 +118,7 @@ fn is_flushed(row: &Row, rule: &Rule) -> bool
 {
     match (rule.modes.flush, rule.modes.evict) {
         (FlushMode::High, _) | (FlushMode::Low, EvictMode::Full) => true,
-        (FlushMode::Low, _) => has_age(row.mtime, rule.values.cache_min_flush_age, rule.now),
+        (FlushMode::Low, _) => has_age(row.mtime, rule.values.cache_min_flush_age, rule.moment),
         (FlushMode::Idle, _) => false,
     }
 }
@@ -114,7 +131,7 @@ fn is_evicted(row: &Row, _rows: &[Row], rule: &Rule, limit: u128) -> bool
     match rule.modes.evict {
         EvictMode::Full => true,
         EvictMode::Some => {
-            has_age(row.mtime, rule.values.cache_min_evict_age, rule.now)
+            has_age(row.mtime, rule.values.cache_min_evict_age, rule.moment)
                 && u128::from(row.temperature) < limit
         }
         EvictMode::Idle => false,

@@ -23,5 +23,5 @@ pub struct Row {
 pub struct Rule {
     pub modes: Modes,
     pub values: PoolValues,
-    pub now: u64,
+    pub moment: u64,
 }
