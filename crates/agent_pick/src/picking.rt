@@ -3,7 +3,7 @@ ghost use Rattle.std.specs.Prelude.{◌≡◌, ◌<◌, ◌≤◌, length};
 ghost use Rattle.std.specs.List.{position};
 ghost use Rattle.std.specs.Option.{option_copied};
 ghost use Rattle.agent_pick.specs.Rules.{evicts, flushes, is_aged, qualifies, wants_evict, wants_flush};
-ghost use Rattle.agent_pick.specs.Picks.{first_from, is_behind, pick_of, start_of};
+ghost use Rattle.agent_pick.specs.Picks.{chosen_at, first_from, is_behind, pick_of, start_of};
 ghost use Rattle.agent_pick.specs.Steps.{IsLimit};
 
 use crate::temperatures::cold_limit;
@@ -37,9 +37,19 @@ pub fn pick(
     }
     let rule = Rule { modes: *modes, values: *values, moment: now };
     let limit = limit_for(rows, &rule);
-    match first_place(rows, start_at(rows, cursor), &rule, limit) {
-        Some(place) if rows[place].dirty => Chosen::Flush(place),
-        Some(place) => Chosen::Evict(place),
+    choice_at(rows, first_place(rows, start_at(rows, cursor), &rule, limit))
+}
+
+// What is done at the place, if there is one.
+fn choice_at(rows: &[Row], place: Option<usize>) -> Chosen
+    ensures { result ≡ chosen_at rows.now place }
+{
+    let Some(place) = place else {
+        return Chosen::Nothing;
+    };
+    match rows.get(place) {
+        Some(row) if row.dirty => Chosen::Flush(place),
+        Some(_) => Chosen::Evict(place),
         None => Chosen::Nothing,
     }
 }

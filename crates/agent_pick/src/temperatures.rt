@@ -1,9 +1,9 @@
 //! The rows by their temperature. A rank is never computed row by row: since it rises with the temperature, the
 //! cold rows are those below one limit, which some 30 passes over the rows find without any memory.
-ghost use Rattle.std.specs.Prelude.{◌≡◌, ◌<◌, nat_lt, length};
+ghost use Rattle.std.specs.Prelude.{◌≡◌, ◌<◌, ◌≤◌, ◌-◌, ◌^◌, nat_lt, length};
 ghost use Rattle.std.specs.List.{count_by};
 ghost use Rattle.agent_pick.specs.Rules.{is_cold};
-ghost use Rattle.agent_pick.specs.Steps.{IsColdLimit};
+ghost use Rattle.agent_pick.specs.Steps.{IsBetween, IsColdLimit};
 
 use crate::Row;
 
@@ -13,14 +13,14 @@ const MILLION: u128 = 1_000_000;
 const TOP: u128 = 1 << 64;
 
 // How many rows are colder.
-fn colder(rows: &[Row], temperature: u64) -> usize
+fn colder(rows: &[Row], temperature: u128) -> usize
     ensures { result ≡ count_by (λ r. nat_lt r.temperature temperature) rows.now }
 {
-    rows.iter().filter(|row| row.temperature < temperature).count()
+    rows.iter().filter(|row| u128::from(row.temperature) < temperature).count()
 }
 
 // Whether a temperature ranks below the effort.
-fn ranks_below(rows: &[Row], effort: u64, temperature: u64) -> bool
+fn ranks_below(rows: &[Row], effort: u64, temperature: u128) -> bool
     requires { 0 < length rows.now }
     ensures { result ≡ is_cold rows.now effort temperature }
 {
@@ -37,22 +37,48 @@ fn warmest(rows: &[Row]) -> u64 {
     greatest
 }
 
+// What is known of the limit: it lies from `low` to `high`.
+#[derive(Clone, Copy, Drop)]
+struct Between {
+    low: u128,
+    high: u128,
+}
+
+// Halves what is not known, by one more temperature.
+fn narrowed(rows: &[Row], effort: u64, between: Between, probe: u128) -> Between
+    requires some { 0 < length rows.now }
+    requires between { IsBetween rows.now effort between }
+    requires inside { (between.low ≤ probe) × (probe < between.high) }
+    ensures known { IsBetween rows.now effort result }
+    ensures less { result.high - result.low < between.high - between.low }
+{
+    if ranks_below(rows, effort, probe) {
+        Between { low: probe + 1, high: between.high }
+    } else {
+        Between { low: between.low, high: probe }
+    }
+}
+
+// The temperature in the middle of what is not known.
+fn middle(between: Between) -> u128
+    requires ordered { between.low ≤ between.high }
+    requires top { between.high ≤ 2 ^ 64 }
+    ensures { between.low < between.high → (between.low ≤ result) × (result < between.high) }
+{
+    between.low + (between.high - between.low) / 2
+}
+
 // The limit below which temperatures are cold. The first probe is the greatest temperature, so that the others stay
 // within those that occur.
 pub(crate) fn cold_limit(rows: &[Row], effort: u64) -> u128
     requires { 0 < length rows.now }
     ensures { IsColdLimit rows.now effort result }
 {
-    let mut low = 0;
-    let mut high = TOP;
-    let mut probe = warmest(rows);
-    while low < high {
-        if ranks_below(rows, effort, probe) {
-            low = u128::from(probe) + 1;
-        } else {
-            high = u128::from(probe);
-        }
-        probe = (low + (high - low) / 2).min(TOP - 1) as u64;
+    let mut between = Between { low: 0, high: TOP };
+    let mut probe = u128::from(warmest(rows));
+    while between.low < between.high {
+        between = narrowed(rows, effort, between, probe);
+        probe = middle(between);
     }
-    low
+    between.low
 }

@@ -1,13 +1,12 @@
-use Rattle.std.proofs.Common.{◌-◌, ◌≡◌, ◌<◌, ℕ, ◌≤◌, ◌^◌, true, false}
-use Rattle.agent_pick.specs.Rules.{is_cold}
+use Rattle.std.proofs.Common.{◌-◌, ◌<◌, ◌≤◌, ℕ}
+use Rattle.agent_pick.specs.Steps.{IsBetween}
 use Rattle.agent_pick.proofs.temperatures.cold_limit.Given as goal
 
--- all below `low` is cold, all from `high` on is not, and the next probe lies between
-abbrev pub invariant-loop-low : goal.invariant-loop-low
-invariant-loop-low l =
-    (l.low ≤ l.high) × (l.high ≤ 2 ^ 64) × (l.low ≤ l.probe) × (l.low < l.high → l.probe < l.high)
-    × ((t : ℕ) → t < l.low → is_cold l.rows l.effort t ≡ true)
-    × ((t : ℕ) → l.high ≤ t → t < 2 ^ 64 → is_cold l.rows l.effort t ≡ false)
+-- the limit lies between, and so does the next probe
+abbrev pub invariant-loop-between : goal.invariant-loop-between
+invariant-loop-between l =
+    IsBetween l.rows l.effort l.between
+    × (l.between.low < l.between.high → (l.between.low ≤ l.probe) × (l.probe < l.between.high))
 
-abbrev pub decreases-loop-low : goal.decreases-loop-low
-decreases-loop-low l = l.high - l.low
+abbrev pub decreases-loop-between : goal.decreases-loop-between
+decreases-loop-between l = l.between.high - l.between.low
