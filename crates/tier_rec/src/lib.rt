@@ -1,13 +1,13 @@
-// A library with one function.
+//! The record of a name in the cache, what a request or a flush makes of it, and the totals of all records.
+//!
+//! Promises that a record is marked clean exactly where its `seq` is the one that was flushed, and that the totals of
+//! a list of records in which one was exchanged are had from the totals before, in constant time.
 #![tactic(auto)]
 
-ghost use Rattle.std.specs.Prelude.{◌≡◌};
-ghost use Rattle.tier_rec.specs.Echo.{echo_of};
+mod laws;
+mod record;
+mod sums;
 
-// The `ensures` clause is the contract: what `echo` returns is `echo_of` of its argument, a definition
-// in `specs/Echo.antt`, which a caller's clause can cite too.
-pub fn echo(x: usize) -> usize
-    ensures { result ≡ echo_of x }
-{
-    x
-}
+pub use laws::{cleaned_at_its_seq, refused_at_another, totals_go_on};
+pub use record::{TierRec, after_act};
+pub use sums::{TOTAL_LIMIT, totals_with};
