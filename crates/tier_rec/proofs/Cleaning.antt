@@ -1,6 +1,6 @@
 -- The two outcomes of cleaning.
 use Rattle.std.proofs.Common.{◌≡◌, ℕ, Bool, true, false, Result, Ok, Err, nat_eq, refl, arith}
-use Rattle.tier_rec.specs.declared.record.TierRec.{TierRec}
+use Rattle.tier_types.specs.declared.record.TierRec.{TierRec}
 use Rattle.tier_rec.specs.Records.{cleaned_record}
 use Rattle.tier_rec.specs.Laws.{CleanedAtItsSeq, RefusedAtAnother}
 

@@ -6,7 +6,7 @@ use Rattle.std.proofs.lemmas.List.Sums.{sum_by-append, sum_by-cons}
 use Rattle.agent_state.specs.declared.totals.Totals.{Totals}
 use Rattle.agent_state.specs.Sums.{Weight, totals_of}
 use Rattle.agent_state.specs.Modes.{AreTotals}
-use Rattle.tier_rec.specs.declared.record.TierRec.{TierRec}
+use Rattle.tier_types.specs.declared.record.TierRec.{TierRec}
 use Rattle.tier_rec.specs.Records.{bytes_of, dirty_of, exchanged, listed, records_of, totals_after, totals_over, weight_of}
 use Rattle.tier_rec.specs.Laws.{TotalsGoOn}
 

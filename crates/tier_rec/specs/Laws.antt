@@ -2,7 +2,7 @@
 use Rattle.std.specs.Prelude.{◌≡◌, ℕ, List, ◌++◌, Bool, true, false, Option, Result, Ok, Err}
 use Rattle.agent_state.specs.Modes.{AreTotals}
 use Rattle.obj_model.specs.declared.state.NameState.{NameState}
-use Rattle.tier_rec.specs.declared.record.TierRec.{TierRec}
+use Rattle.tier_types.specs.declared.record.TierRec.{TierRec}
 use Rattle.tier_rec.specs.Records.{acted_record, cleaned_record, listed, totals_after, totals_over}
 
 -- from the totals of a list of records follow those of the list in which one record, or none, gave place to another

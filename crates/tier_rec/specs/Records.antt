@@ -4,7 +4,7 @@ use Rattle.obj_model.specs.declared.state.Obj.{Obj}
 use Rattle.obj_model.specs.declared.state.NameState.{NameState}
 use Rattle.agent_state.specs.declared.totals.Totals.{Totals}
 use Rattle.agent_state.specs.Sums.{Weight, totals_of}
-use Rattle.tier_rec.specs.declared.record.TierRec.{TierRec}
+use Rattle.tier_types.specs.declared.record.TierRec.{TierRec}
 
 -- the record after a request acted and left this state
 abbrev pub acted_record : NameState → ℕ → TierRec

@@ -2,7 +2,7 @@
 ghost use Rattle.std.specs.Option.{option_copied};
 ghost use Rattle.tier_rec.specs.Laws.{CleanedAtItsSeq, RefusedAtAnother, TotalsGoOn};
 
-use crate::TierRec;
+use tier_types::TierRec;
 
 /// From the totals of a list of records follow those of the list in which one record gave place to another; one that
 /// is new or gone among them.

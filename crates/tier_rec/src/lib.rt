@@ -9,5 +9,6 @@ mod record;
 mod sums;
 
 pub use laws::{cleaned_at_its_seq, refused_at_another, totals_go_on};
-pub use record::{TierRec, after_act};
+pub use record::{after_act, cleaned};
 pub use sums::{TOTAL_LIMIT, totals_with};
+pub use tier_types::TierRec;

@@ -3,8 +3,8 @@ ghost use Rattle.std.specs.Prelude.{◌≡◌, ◌≤◌, ◌^◌};
 ghost use Rattle.std.specs.Option.{option_copied};
 ghost use Rattle.tier_rec.specs.Records.{bytes_of, dirty_of, exchanged, records_of, totals_after};
 
-use crate::TierRec;
 use agent_state::Totals;
+use tier_types::TierRec;
 
 /// No total is above this.
 pub const TOTAL_LIMIT: u64 = 1 << 40;
