@@ -15,10 +15,10 @@ pub counts_rise : (rows : List Row) (a b : ℕ) → a ≤ b →
     count_by (λ (r : Row). nat_lt r.temperature a) rows ≤ count_by (λ (r : Row). nat_lt r.temperature b) rows
 counts_rise rows a b l =
     sum_by-le-sum_by
-        (λ (r : Row). cond (nat_lt r.temperature a) 1 0)
-        (λ (r : Row). cond (nat_lt r.temperature b) 1 0)
-        rows
-        (λ r. colder_too r.temperature a b l)
+    (λ (r : Row). cond (nat_lt r.temperature a) 1 0)
+    (λ (r : Row). cond (nat_lt r.temperature b) 1 0)
+    rows
+    (λ r. colder_too r.temperature a b l)
 
 pub ranks_rise : (rows : List Row) (a b : ℕ) → a ≤ b → rank rows a ≤ rank rows b
 ranks_rise rows a b l = grind (arith, counts_rise rows a b l)
@@ -41,10 +41,10 @@ pub colder_known : (rows : List Row) (effort probe : ℕ) (b : Between) → IsBe
     IsBetween rows effort (record { low = probe + 1; high = b.high })
 colder_known rows effort probe b k l u h =
     record {
-        ordered = omega arith;
-        top = k.top;
-        cold = λ t less. cold_below rows effort t probe (below_next t probe less) h;
-        warm = k.warm
+      ordered = omega arith;
+      top = k.top;
+      cold = λ t less. cold_below rows effort t probe (below_next t probe less) h;
+      warm = k.warm;
     }
 
 -- a warm probe: all from it on is warm
@@ -53,10 +53,10 @@ pub warmer_known : (rows : List Row) (effort probe : ℕ) (b : Between) → IsBe
     IsBetween rows effort (record { low = b.low; high = probe })
 warmer_known rows effort probe b k l u h =
     record {
-        ordered = l;
-        top = grind (arith, k.top);
-        cold = k.cold;
-        warm = λ t more fits. warm_above rows effort probe t more h
+      ordered = l;
+      top = grind (arith, k.top);
+      cold = k.cold;
+      warm = λ t more fits. warm_above rows effort probe t more h;
     }
 
 -- a test that agrees with a limit on both sides of it

@@ -27,7 +27,9 @@ start_of (Some cursor) rows = or_end rows (position (is_behind cursor) rows)
 -- the first place from the start on at which the test holds, else the first before it
 abbrev pub first_from : (Row → Bool) → ℕ → List Row → Option ℕ
 first_from test start rows =
-    option_or (option_map (λ i. start + i) (position test (drop start rows))) (position test (take start rows))
+    option_or
+        (option_map (λ i. start + i) (position test (drop start rows)))
+        (position test (take start rows))
 
 -- what is done with the row
 abbrev pub done_with : ℕ → Row → Chosen
@@ -45,4 +47,5 @@ chosen_at rows (Some place) = chosen_row place (slice_get rows place)
 
 -- the pick
 abbrev pub pick_of : List Row → Option (List ℕ) → Rule → Chosen
-pick_of rows cursor rule = chosen_at rows (first_from (qualifies rows rule) (start_of cursor rows) rows)
+pick_of rows cursor rule =
+    chosen_at rows (first_from (qualifies rows rule) (start_of cursor rows) rows)

@@ -10,7 +10,8 @@ use Rattle.agent_pick.specs.Rules.{is_cold}
 -- the cold temperatures are those below the limit
 abbrev pub IsColdLimit : List Row → ℕ → ℕ → Type 0
 IsColdLimit rows effort limit =
-    (temperature : ℕ) → temperature < 2 ^ 64 → is_cold rows effort temperature ≡ nat_lt temperature limit
+    (temperature : ℕ) → temperature < 2 ^ 64 →
+    is_cold rows effort temperature ≡ nat_lt temperature limit
 
 -- a limit is asked for in some mode alone
 abbrev pub IsLimitIn : EvictMode → List Row → ℕ → ℕ → Type 0

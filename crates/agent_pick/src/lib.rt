@@ -1,7 +1,8 @@
 //! The record that the tier agent flushes or evicts next.
 //!
-//! Promises that `pick` is the first row that qualifies in the cyclic order of names behind the cursor, over any rows,
-//! modes and pool values, and that it answers nothing exactly where none qualifies. The laws say it in plain words.
+//! Promises that `pick` is the first row that qualifies in the cyclic order of names behind the
+//! cursor, over any rows, modes and pool values, and that it answers nothing exactly where none
+//! qualifies. The laws say it in plain words.
 #![tactic(auto)]
 
 mod picking;

@@ -2,7 +2,7 @@
 ghost use Rattle.std.specs.Prelude.{◌≡◌, ◌<◌, ◌≤◌, length};
 ghost use Rattle.std.specs.List.{position};
 ghost use Rattle.std.specs.Option.{option_copied};
-ghost use Rattle.agent_pick.specs.Rules.{evicts, flushes, is_aged, qualifies, wants_evict, wants_flush};
+ghost use Rattle.agent_pick.specs.Rules.{is_aged, qualifies, rule_of, wants_evict, wants_flush};
 ghost use Rattle.agent_pick.specs.Picks.{chosen_at, first_from, is_behind, pick_of, start_of};
 ghost use Rattle.agent_pick.specs.Steps.{IsLimit};
 
@@ -20,9 +20,9 @@ pub enum Chosen {
     Nothing,
 }
 
-/// The first row that qualifies in the cyclic order behind the cursor, and from the first row on without a cursor.
-/// The rows stand in rising order of their names. A pass over the rows, and some 30 more in evict mode some, where the
-/// temperatures are ranked; it takes no memory.
+/// The first row that qualifies in the cyclic order behind the cursor, and from the first row on
+/// without a cursor. The rows stand in rising order of their names. A pass over the rows, and some
+/// 30 more in evict mode some, where the temperatures are ranked; it takes no memory.
 pub fn pick(
     rows: &[Row],
     cursor: Option<&Name>,
@@ -30,14 +30,21 @@ pub fn pick(
     values: &PoolValues,
     now: u64,
 ) -> Chosen
-    ensures { result ≡ pick_of rows.now (option_copied cursor.entry) (record { modes = modes.now; values = values.now; moment = now }) }
+    ensures { result ≡ pick_of rows.now (option_copied cursor.entry) (rule_of modes.now values.now now) }
 {
     if rows.is_empty() {
         return Chosen::Nothing;
     }
-    let rule = Rule { modes: *modes, values: *values, moment: now };
+    let rule = Rule {
+        modes: *modes,
+        values: *values,
+        moment: now,
+    };
     let limit = limit_for(rows, &rule);
-    choice_at(rows, first_place(rows, start_at(rows, cursor), &rule, limit))
+    choice_at(
+        rows,
+        first_place(rows, start_at(rows, cursor), &rule, limit),
+    )
 }
 
 // What is done at the place, if there is one.
@@ -111,7 +118,8 @@ fn first_in(part: &[Row], rows: &[Row], rule: &Rule, limit: u128) -> Option<usiz
     requires { IsLimit rows.now rule.now limit }
     ensures { result ≡ position (qualifies rows.now rule.now) part.now }
 {
-    part.iter().position(|row| is_wanted(row, rows, rule, limit))
+    part.iter()
+        .position(|row| is_wanted(row, rows, rule, limit))
 }
 
 // Whether a row qualifies among all.
@@ -119,7 +127,12 @@ fn is_wanted(row: &Row, _rows: &[Row], rule: &Rule, limit: u128) -> bool
     requires { IsLimit _rows.now rule.now limit }
     ensures { result ≡ qualifies _rows.now rule.now row.now }
 {
-    !row.busy && if row.dirty { is_flushed(row, rule) } else { is_evicted(row, _rows, rule, limit) }
+    !row.busy
+        && if row.dirty {
+            is_flushed(row, rule)
+        } else {
+            is_evicted(row, _rows, rule, limit)
+        }
 }
 
 // Whether a dirty row is flushed.

@@ -18,7 +18,8 @@ pub struct Row {
     pub temperature: u64,
 }
 
-/// What decides which rows qualify: the modes of the agent, the pool's values and the moment, in seconds.
+/// What decides which rows qualify: the modes of the agent, the pool's values and the moment, in
+/// seconds.
 #[derive(Clone, Copy, Debug, PartialEq, Eq)]
 pub struct Rule {
     pub modes: Modes,

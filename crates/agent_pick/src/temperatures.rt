@@ -1,8 +1,8 @@
-//! The rows by their temperature. A rank is never computed row by row: since it rises with the temperature, the
-//! cold rows are those below one limit, which some 30 passes over the rows find without any memory.
+//! The rows by their temperature. A rank is never computed row by row: since it rises with the
+//! temperature, the cold rows are those below one limit, which some 30 passes over the rows find
+//! without any memory.
 ghost use Rattle.std.specs.Prelude.{◌≡◌, ◌<◌, ◌≤◌, ◌-◌, ◌^◌, nat_lt, length};
-ghost use Rattle.std.specs.List.{count_by};
-ghost use Rattle.agent_pick.specs.Rules.{is_cold};
+ghost use Rattle.agent_pick.specs.Rules.{colder, is_cold};
 ghost use Rattle.agent_pick.specs.Steps.{IsBetween, IsColdLimit};
 
 use crate::Row;
@@ -14,9 +14,11 @@ const TOP: u128 = 1 << 64;
 
 // How many rows are colder.
 fn colder(rows: &[Row], temperature: u128) -> usize
-    ensures { result ≡ count_by (λ r. nat_lt r.temperature temperature) rows.now }
+    ensures { result ≡ colder rows.now temperature }
 {
-    rows.iter().filter(|row| u128::from(row.temperature) < temperature).count()
+    rows.iter()
+        .filter(|row| u128::from(row.temperature) < temperature)
+        .count()
 }
 
 // Whether a temperature ranks below the effort.
@@ -53,9 +55,15 @@ fn narrowed(rows: &[Row], effort: u64, between: Between, probe: u128) -> Between
     ensures less { result.high - result.low < between.high - between.low }
 {
     if ranks_below(rows, effort, probe) {
-        Between { low: probe + 1, high: between.high }
+        Between {
+            low: probe + 1,
+            high: between.high,
+        }
     } else {
-        Between { low: between.low, high: probe }
+        Between {
+            low: between.low,
+            high: probe,
+        }
     }
 }
 
@@ -68,8 +76,8 @@ fn middle(between: Between) -> u128
     between.low + (between.high - between.low) / 2
 }
 
-// The limit below which temperatures are cold. The first probe is the greatest temperature, so that the others stay
-// within those that occur.
+// The limit below which temperatures are cold. The first probe is the greatest temperature, so that
+// the others stay within those that occur.
 pub(crate) fn cold_limit(rows: &[Row], effort: u64) -> u128
     requires { 0 < length rows.now }
     ensures { IsColdLimit rows.now effort result }

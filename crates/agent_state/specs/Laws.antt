@@ -15,7 +15,8 @@ use Rattle.agent_state.specs.Sums.{Weight, totals_of}
 abbrev pub NoTargetNoEviction : PoolValues → Share → Type 0
 NoTargetNoEviction v s =
     s.objects ≡ 0 → s.bytes ≡ 0 →
-    (t : Totals) (old : Modes) → ((modes_of t v s old).evict ≡ evict.Idle) × ((modes_of t v s old).effort ≡ 0)
+    (t : Totals) (old : Modes) →
+    ((modes_of t v s old).evict ≡ evict.Idle) × ((modes_of t v s old).effort ≡ 0)
 
 -- where each record of a list is clean, nothing is flushed
 abbrev pub CleanIsNotFlushed : PoolValues → Share → Type 0

@@ -56,7 +56,8 @@ rests_evict evict.Idle = true
 rests_evict evict.Some = false
 rests_evict evict.Full = false
 
--- the flush mode at a dirty part, by the two thresholds; with a threshold of 0 any dirty record counts
+-- the flush mode at a dirty part, by the two thresholds; with a threshold of 0 any dirty record
+-- counts
 abbrev pub flush_at : ℕ → ℕ → ℕ → ℕ → FlushMode
 flush_at low high part dirty =
     if nat_lt high part then flush.High
@@ -68,10 +69,10 @@ abbrev pub flush_of : PoolValues → FlushMode → ℕ → ℕ → FlushMode
 flush_of v old part dirty =
     let slop = slop_of v.cache_target_dirty_ratio in
     flush_at
-        (with_slop (rests_flush old) slop v.cache_target_dirty_ratio)
-        (with_slop (rests_flush old) slop v.cache_target_dirty_high_ratio)
-        part
-        dirty
+    (with_slop (rests_flush old) slop v.cache_target_dirty_ratio)
+    (with_slop (rests_flush old) slop v.cache_target_dirty_high_ratio)
+    part
+    dirty
 
 -- the full part above which some records are evicted
 abbrev pub evict_threshold : PoolValues → EvictMode → ℕ
@@ -81,7 +82,9 @@ evict_threshold v old =
 -- the evict mode at a full part, by the threshold
 abbrev pub evict_at : ℕ → ℕ → EvictMode
 evict_at threshold part =
-    if nat_lt 1000000 part then evict.Full else if nat_lt threshold part then evict.Some else evict.Idle
+    if nat_lt 1000000 part then evict.Full
+    else if nat_lt threshold part then evict.Some
+    else evict.Idle
 
 -- cut down to a whole number of steps of 100,000
 abbrev pub stepped : ℕ → ℕ
@@ -103,13 +106,20 @@ abbrev pub modes_of : Totals → PoolValues → Share → Modes → Modes
 modes_of t v s old =
     let mode = evict_at (evict_threshold v old.evict) (full_of t s) in
     record {
-        flush = flush_of v old.flush (dirty_of t s) t.dirty;
-        evict = mode;
-        effort = effort_at mode (evict_threshold v old.evict) (full_of t s);
-        dirty_micro = dirty_of t s;
-        full_micro = full_of t s
+      flush = flush_of v old.flush (dirty_of t s) t.dirty;
+      evict = mode;
+      effort = effort_at mode (evict_threshold v old.evict) (full_of t s);
+      dirty_micro = dirty_of t s;
+      full_micro = full_of t s;
     }
 
 -- the modes before any were chosen
 abbrev pub idle_modes : Modes
-idle_modes = record { flush = flush.Idle; evict = evict.Idle; effort = 0; dirty_micro = 0; full_micro = 0 }
+idle_modes =
+    record {
+        flush = flush.Idle;
+        evict = evict.Idle;
+        effort = 0;
+        dirty_micro = 0;
+        full_micro = 0
+    }

@@ -12,7 +12,7 @@ pub record Weight : Type 0 where
 abbrev pub totals_of : List Weight → Totals
 totals_of records =
     record {
-        records = length records;
-        dirty = count_by (λ (w : Weight). w.dirty) records;
-        bytes = sum_by (λ (w : Weight). w.bytes) records
+      records = length records;
+      dirty = count_by (λ (w : Weight). w.dirty) records;
+      bytes = sum_by (λ (w : Weight). w.bytes) records;
     }

@@ -10,8 +10,9 @@ const MILLION: u64 = 1_000_000;
 // The smallest effort, and the step of all others.
 const EFFORT_STEP: u64 = 100_000;
 
-/// The modes of the agent of a cache that holds `totals`, under the pool's values and the group's share of the
-/// targets, after the old modes. Sums and products do not wrap; ratios above 2^64 - 1 are cut down to it.
+/// The modes of the agent of a cache that holds `totals`, under the pool's values and the group's
+/// share of the targets, after the old modes. Sums and products do not wrap; ratios above 2^64 - 1
+/// are cut down to it.
 pub fn choose(totals: &Totals, values: &PoolValues, share: &Share, old: &Modes) -> Modes
     requires { AreTotals totals.now }
     ensures { result ≡ modes_of totals.now values.now share.now old.now }

@@ -1,4 +1,5 @@
-//! What follows from the definition of the modes. These calls do nothing: their contracts are the laws.
+//! What follows from the definition of the modes. These calls do nothing: their contracts are the
+//! laws.
 ghost use Rattle.agent_state.specs.Laws.{CleanIsNotFlushed, EffortIsInTenths, EvictingGoesOn, FlushingGoesOn, NoTargetNoEviction};
 
 use crate::Share;

@@ -1,19 +1,23 @@
-//! The modes round each threshold, from each old mode, as a computation with exact fractions gives them.
+//! The modes round each threshold, from each old mode, as a computation with exact fractions gives
+//! them.
 use agent_state::{EvictMode, FlushMode, Modes, Share, Totals, choose};
 use obj_model::{HitType, Mode, PoolValues};
 use std::test::*;
 
 const LIMIT: u64 = 1 << 40;
+
 const FAR: u64 = 1 << 62;
 
 // The ratios of a pool that sets none: dirty, dirty high and full.
 const DEFAULTS: [u64; 3] = [400_000, 600_000, 800_000];
 
 const FLUSH: [FlushMode; 3] = [FlushMode::Idle, FlushMode::Low, FlushMode::High];
+
 const EVICT: [EvictMode; 3] = [EvictMode::Idle, EvictMode::Some, EvictMode::Full];
 
-// Under the defaults. Records, dirty ones, bytes; target objects, target bytes; old flush mode, old evict mode (0 idle,
-// 1 low or some, 2 high or full); flush mode, evict mode, effort, dirty part, full part.
+// Under the defaults. Records, dirty ones, bytes; target objects, target bytes; old flush mode, old
+// evict mode (0 idle, 1 low or some, 2 high or full); flush mode, evict mode, effort, dirty part,
+// full part.
 const AT_DEFAULTS: [[u64; 12]; 50] = [
     [39, 39, 0, 100, 0, 1, 0, 0, 0, 0, 390_000, 390_000],
     [40, 40, 0, 100, 0, 0, 0, 0, 0, 0, 400_000, 400_000],
@@ -59,24 +63,88 @@ const AT_DEFAULTS: [[u64; 12]; 50] = [
     [0, 0, 0, 5, 5, 1, 1, 0, 0, 0, 0, 0],
     [0, 3, 7, 0, 5, 0, 0, 0, 0, 0, 0, 0],
     [10, 10, 1_000, 100, 1_250, 0, 0, 2, 0, 0, 800_000, 800_000],
-    [90, 10, 1_000, 100, 2_000, 0, 0, 0, 1, 400_000, 100_000, 900_000],
+    [
+        90, 10, 1_000, 100, 2_000, 0, 0, 0, 1, 400_000, 100_000, 900_000,
+    ],
     [LIMIT, LIMIT, LIMIT, 0, 0, 0, 0, 0, 0, 0, 0, 0],
-    [LIMIT, LIMIT, LIMIT, 0, 1, 0, 0, 2, 2, 1_000_000, 1_099_511_627_776_000_000, 1_099_511_627_776_000_000],
-    [1, LIMIT, LIMIT, 0, 1, 0, 0, 2, 2, 1_000_000, u64::MAX, 1_099_511_627_776_000_000],
-    [1, 16, LIMIT, 0, 1, 0, 0, 2, 2, 1_000_000, 17_592_186_044_416_000_000, 1_099_511_627_776_000_000],
-    [LIMIT, LIMIT, LIMIT, 1, FAR, 2, 2, 2, 2, 1_000_000, 1_099_511_627_776_000_000, 1_099_511_627_776_000_000],
+    [
+        LIMIT,
+        LIMIT,
+        LIMIT,
+        0,
+        1,
+        0,
+        0,
+        2,
+        2,
+        1_000_000,
+        1_099_511_627_776_000_000,
+        1_099_511_627_776_000_000,
+    ],
+    [
+        1,
+        LIMIT,
+        LIMIT,
+        0,
+        1,
+        0,
+        0,
+        2,
+        2,
+        1_000_000,
+        u64::MAX,
+        1_099_511_627_776_000_000,
+    ],
+    [
+        1,
+        16,
+        LIMIT,
+        0,
+        1,
+        0,
+        0,
+        2,
+        2,
+        1_000_000,
+        17_592_186_044_416_000_000,
+        1_099_511_627_776_000_000,
+    ],
+    [
+        LIMIT,
+        LIMIT,
+        LIMIT,
+        1,
+        FAR,
+        2,
+        2,
+        2,
+        2,
+        1_000_000,
+        1_099_511_627_776_000_000,
+        1_099_511_627_776_000_000,
+    ],
 ];
 
 // The same with the three ratios behind the targets.
 const AT_OTHERS: [[u64; 15]; 8] = [
     [7, 7, 70, 0, 0, 0, 0, 0, 0, 0, 1, 0, 0, 0, 0],
     [7, 0, 70, 0, 0, 0, 0, 0, 0, 0, 0, 0, 0, 0, 0],
-    [7, 7, 70, 100, 0, 0, 0, 0, 2, 2, 2, 1, 100_000, 70_000, 70_000],
+    [
+        7, 7, 70, 100, 0, 0, 0, 0, 2, 2, 2, 1, 100_000, 70_000, 70_000,
+    ],
     [1, 0, 0, 1_000_000, 0, 0, 0, 0, 0, 1, 0, 1, 100_000, 0, 1],
-    [5, 5, 0, 5, 0, 1_000_000, 1_000_000, 1_000_000, 0, 0, 0, 0, 0, 1_000_000, 1_000_000],
-    [5, 5, 0, 5, 0, 1_000_000, 1_000_000, 1_000_000, 1, 1, 2, 1, 1_000_000, 1_000_000, 1_000_000],
-    [6, 6, 0, 5, 0, 1_000_000, 1_000_000, 1_000_000, 1, 1, 2, 2, 1_000_000, 1_200_000, 1_200_000],
-    [1, 1, 0, 1_000_000, 0, 900_000, 10_000, 800_000, 1, 1, 2, 0, 0, 1, 1],
+    [
+        5, 5, 0, 5, 0, 1_000_000, 1_000_000, 1_000_000, 0, 0, 0, 0, 0, 1_000_000, 1_000_000,
+    ],
+    [
+        5, 5, 0, 5, 0, 1_000_000, 1_000_000, 1_000_000, 1, 1, 2, 1, 1_000_000, 1_000_000, 1_000_000,
+    ],
+    [
+        6, 6, 0, 5, 0, 1_000_000, 1_000_000, 1_000_000, 1, 1, 2, 2, 1_000_000, 1_200_000, 1_200_000,
+    ],
+    [
+        1, 1, 0, 1_000_000, 0, 900_000, 10_000, 800_000, 1, 1, 2, 0, 0, 1, 1,
+    ],
 ];
 
 fn values(ratios: [u64; 3]) -> PoolValues {
@@ -151,7 +219,8 @@ fn round_each_threshold(rt: HostRuntime) {
     }
 }
 
-// An agent at a target of 100 objects, all of them dirty: it begins above 40.8 and goes on down to 39.2.
+// An agent at a target of 100 objects, all of them dirty: it begins above 40.8 and goes on down to
+// 39.2.
 #[test]
 fn begins_late_and_ends_late(rt: HostRuntime) {
     let mut modes = Modes::idle();

@@ -1,4 +1,5 @@
-//! Picks with and without a cursor, of busy, young and warm rows, as a computation row by row gives them.
+//! Picks with and without a cursor, of busy, young and warm rows, as a computation row by row gives
+//! them.
 use agent_pick::{Chosen, Row, pick};
 use agent_state::{EvictMode, FlushMode, Modes};
 use obj_model::{HitType, Mode, Name, PoolValues};
@@ -8,18 +9,62 @@ use std::test::*;
 
 const MAX: u64 = u64::MAX;
 
-// Rows with the names a, c, e, g, i and k: dirty, busy, the moment of the last write, the temperature.
+// Rows with the names a, c, e, g, i and k: dirty, busy, the moment of the last write, the
+// temperature.
 const ROWS: [[[u64; 4]; 6]; 6] = [
-    [[0, 0, 10, 5], [0, 0, 20, 1], [0, 0, 30, 1], [0, 0, 40, 2], [0, 0, 50, 9], [0, 0, 60, 9]],
-    [[1, 0, 10, 0], [0, 1, 20, 0], [1, 1, 30, 7], [0, 0, 40, 7], [1, 0, 50, 3], [0, 0, 60, 3]],
-    [[1, 0, 60, 4], [1, 0, 50, 4], [1, 1, 40, 4], [1, 0, 30, 4], [1, 0, 20, 4], [1, 0, 10, 4]],
-    [[0, 1, 0, 0], [1, 1, 0, 0], [0, 1, 0, 0], [1, 1, 0, 0], [0, 1, 0, 0], [1, 1, 0, 0]],
-    [[0, 0, MAX, MAX], [1, 0, MAX, 0], [0, 0, 0, MAX - 1], [1, 0, 1, MAX], [0, 0, MAX - 1, 0], [0, 1, 5, 5]],
-    [[0, 0, 0, 8], [0, 0, 0, 7], [0, 0, 0, 6], [0, 0, 0, 5], [0, 0, 0, 4], [0, 0, 0, 3]],
+    [
+        [0, 0, 10, 5],
+        [0, 0, 20, 1],
+        [0, 0, 30, 1],
+        [0, 0, 40, 2],
+        [0, 0, 50, 9],
+        [0, 0, 60, 9],
+    ],
+    [
+        [1, 0, 10, 0],
+        [0, 1, 20, 0],
+        [1, 1, 30, 7],
+        [0, 0, 40, 7],
+        [1, 0, 50, 3],
+        [0, 0, 60, 3],
+    ],
+    [
+        [1, 0, 60, 4],
+        [1, 0, 50, 4],
+        [1, 1, 40, 4],
+        [1, 0, 30, 4],
+        [1, 0, 20, 4],
+        [1, 0, 10, 4],
+    ],
+    [
+        [0, 1, 0, 0],
+        [1, 1, 0, 0],
+        [0, 1, 0, 0],
+        [1, 1, 0, 0],
+        [0, 1, 0, 0],
+        [1, 1, 0, 0],
+    ],
+    [
+        [0, 0, MAX, MAX],
+        [1, 0, MAX, 0],
+        [0, 0, 0, MAX - 1],
+        [1, 0, 1, MAX],
+        [0, 0, MAX - 1, 0],
+        [0, 1, 5, 5],
+    ],
+    [
+        [0, 0, 0, 8],
+        [0, 0, 0, 7],
+        [0, 0, 0, 6],
+        [0, 0, 0, 5],
+        [0, 0, 0, 4],
+        [0, 0, 0, 3],
+    ],
 ];
 
-// Which rows; the cursor's byte or 0; flush mode, evict mode (0 idle, 1 low or some, 2 high or full), effort; least age
-// for a flush and for an eviction; the moment; what is picked (0 nothing, 1 evict, 2 flush) and where.
+// Which rows; the cursor's byte or 0; flush mode, evict mode (0 idle, 1 low or some, 2 high or
+// full), effort; least age for a flush and for an eviction; the moment; what is picked (0 nothing,
+// 1 evict, 2 flush) and where.
 const PICKS: [[u64; 10]; 86] = [
     [0, 0, 0, 2, 1_000_000, 0, 0, 0, 1, 0],
     [0, 97, 0, 2, 1_000_000, 0, 0, 0, 1, 1],
@@ -196,8 +241,14 @@ fn one_busy_row_and_none(rt: HostRuntime) -> Result<(), Fail> {
     let some = modes(0, 1, 500_000);
     let busy = rows(&rt, rt.alloc(), &[[0, 1, 0, 0]])?;
     let free = rows(&rt, rt.alloc(), &[[0, 0, 0, 0]])?;
-    assert_eq!(rt; pick(busy.as_slice(), None, &some, &values(0, 0), 0), Chosen::Nothing);
-    assert_eq!(rt; pick(free.as_slice(), None, &some, &values(0, 0), 0), Chosen::Evict(0));
+    assert_eq!(rt;
+        pick(busy.as_slice(), None, &some, &values(0, 0), 0),
+        Chosen::Nothing
+    );
+    assert_eq!(rt;
+        pick(free.as_slice(), None, &some, &values(0, 0), 0),
+        Chosen::Evict(0)
+    );
     assert_eq!(rt; pick(&[], None, &some, &values(0, 0), 0), Chosen::Nothing);
     Ok(())
 }

@@ -22,7 +22,8 @@ fn state(alloc: Global, seq: u64, length: usize) -> Result<NameState, Fail> {
     })
 }
 
-// No record for 0, a whiteout for 1 (clean) and 2 (dirty), else a clean or dirty one of as many bytes as the tens say.
+// No record for 0, a whiteout for 1 (clean) and 2 (dirty), else a clean or dirty one of as many
+// bytes as the tens say.
 fn record(alloc: Global, code: u64) -> Result<Option<TierRec>, Fail> {
     if code == 0 {
         return Ok(None);

@@ -5,10 +5,12 @@ use std::test::*;
 use tier_route::{Path, Routed, route};
 
 const MODES: [Mode; 3] = [Mode::Writeback, Mode::Readproxy, Mode::Proxy];
+
 const EVICT: [EvictMode; 3] = [EvictMode::Idle, EvictMode::Some, EvictMode::Full];
 
-// By the pool's mode and the evict mode, for names without a record: promote, proxy read, proxy write, full. The first
-// four without hit sets, the others with four; of these a read and then a write, each with the recency unmet, then met.
+// By the pool's mode and the evict mode, for names without a record: promote, proxy read, proxy
+// write, full. The first four without hit sets, the others with four; of these a read and then a
+// write, each with the recency unmet, then met.
 const UNCACHED: [[&[u8]; 3]; 3] = [
     [b"pppprpwp", b"pppprpwp", b"rrffrrff"],
     [b"rrpprrpp", b"rrpprrpp", b"rrffrrff"],

@@ -58,9 +58,9 @@ long rs = length (map weight_of rs)
 abbrev totals_in : List TierRec → Option TierRec → List TierRec → Totals
 totals_in before r behind =
     totals
-        (long before + records_of r + long behind)
-        (dirty_sum before + dirty_of r + dirty_sum behind)
-        (bytes_sum before + bytes_of r + bytes_sum behind)
+    (long before + records_of r + long behind)
+    (dirty_sum before + dirty_of r + dirty_sum behind)
+    (bytes_sum before + bytes_of r + bytes_sum behind)
 
 same_totals : (before : List TierRec) (r : Option TierRec) (behind : List TierRec) →
     totals_over (before ++ listed r ++ behind) ≡ totals_in before r behind
@@ -70,9 +70,9 @@ same_totals before r behind =
     let b = map weight_of behind in
     ap totals_of (parts before r behind)
     ∙ same _ _ _ _ _ _
-        (three_long a m b ∙ ap (λ n. length a + n + length b) (records_part r))
-        (thrice (λ (w : Weight). cond w.dirty 1 0) a m b ∙ ap (λ n. dirty_sum before + n + dirty_sum behind) (dirty_part r))
-        (thrice (λ (w : Weight). w.bytes) a m b ∙ ap (λ n. bytes_sum before + n + bytes_sum behind) (bytes_part r))
+    (three_long a m b ∙ ap (λ n. length a + n + length b) (records_part r))
+    (thrice (λ (w : Weight). cond w.dirty 1 0) a m b ∙ ap (λ n. dirty_sum before + n + dirty_sum behind) (dirty_part r))
+    (thrice (λ (w : Weight). w.bytes) a m b ∙ ap (λ n. bytes_sum before + n + bytes_sum behind) (bytes_part r))
 
 -- one part gave place to another in a sum that stays within its limit
 one_exchanged : (a old new b : ℕ) → a + new + b ≤ 2 ^ 40 → exchanged (a + old + b) old new ≡ a + new + b
@@ -89,7 +89,7 @@ totals_go_on old new before behind few =
     let fits = within before new behind few in
     ap (λ t. totals_after t old new) (same_totals before old behind)
     ∙ same _ _ _ _ _ _
-        (one_exchanged (long before) (records_of old) (records_of new) (long behind) fits.records_few)
-        (one_exchanged (dirty_sum before) (dirty_of old) (dirty_of new) (dirty_sum behind) fits.dirty_few)
-        (one_exchanged (bytes_sum before) (bytes_of old) (bytes_of new) (bytes_sum behind) fits.bytes_few)
+    (one_exchanged (long before) (records_of old) (records_of new) (long behind) fits.records_few)
+    (one_exchanged (dirty_sum before) (dirty_of old) (dirty_of new) (dirty_sum behind) fits.dirty_few)
+    (one_exchanged (bytes_sum before) (bytes_of old) (bytes_of new) (bytes_sum behind) fits.bytes_few)
     ∙ sym (same_totals before new behind)

@@ -5,11 +5,13 @@ use Rattle.obj_model.specs.declared.state.NameState.{NameState}
 use Rattle.tier_types.specs.declared.record.TierRec.{TierRec}
 use Rattle.tier_rec.specs.Records.{acted_record, cleaned_record, listed, totals_after, totals_over}
 
--- from the totals of a list of records follow those of the list in which one record, or none, gave place to another
+-- from the totals of a list of records follow those of the list in which one record, or none, gave
+-- place to another
 abbrev pub TotalsGoOn : Option TierRec → Option TierRec → Type 0
 TotalsGoOn old new =
     (before behind : List TierRec) → AreTotals (totals_over (before ++ listed new ++ behind)) →
-    totals_after (totals_over (before ++ listed old ++ behind)) old new ≡ totals_over (before ++ listed new ++ behind)
+    totals_after (totals_over (before ++ listed old ++ behind)) old new
+    ≡ totals_over (before ++ listed new ++ behind)
 
 -- a record that is cleaned is clean, has the seq that was flushed, and is the record of before else
 abbrev pub CleanedAtItsSeq : TierRec → ℕ → Type 0

@@ -14,7 +14,8 @@ acted_record state now = record { state = state; dirty = true; mtime = now }
 abbrev pub clean_record : TierRec → TierRec
 clean_record r = record { state = r.state; dirty = false; mtime = r.mtime }
 
--- the record after the base took its state as of a seq: it is clean where that is still its seq, and unchanged else
+-- the record after the base took its state as of a seq: it is clean where that is still its seq,
+-- and unchanged else
 abbrev pub cleaned_record : TierRec → ℕ → Result TierRec TierRec
 cleaned_record r seq = if r.state.seq == seq then Ok (clean_record r) else Err r
 
@@ -59,7 +60,7 @@ exchanged sum old new = min (sum - old + new) (2 ^ 40)
 abbrev pub totals_after : Totals → Option TierRec → Option TierRec → Totals
 totals_after t old new =
     record {
-        records = exchanged t.records (records_of old) (records_of new);
-        dirty = exchanged t.dirty (dirty_of old) (dirty_of new);
-        bytes = exchanged t.bytes (bytes_of old) (bytes_of new)
+      records = exchanged t.records (records_of old) (records_of new);
+      dirty = exchanged t.dirty (dirty_of old) (dirty_of new);
+      bytes = exchanged t.bytes (bytes_of old) (bytes_of new);
     }

@@ -4,8 +4,8 @@ ghost use Rattle.tier_rec.specs.Laws.{CleanedAtItsSeq, RefusedAtAnother, TotalsG
 
 use tier_types::TierRec;
 
-/// From the totals of a list of records follow those of the list in which one record gave place to another; one that
-/// is new or gone among them.
+/// From the totals of a list of records follow those of the list in which one record gave place to
+/// another; one that is new or gone among them.
 #[tactic(auto, using(crate::proofs::Totals::totals_go_on))]
 pub fn totals_go_on(_old: Option<&TierRec>, _new: Option<&TierRec>)
     ensures { TotalsGoOn (option_copied _old.entry) (option_copied _new.entry) }

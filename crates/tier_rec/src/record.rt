@@ -9,11 +9,15 @@ use tier_types::TierRec;
 pub fn after_act(state: NameState, now: u64) -> TierRec
     ensures { result ≡ acted_record state now }
 {
-    TierRec { state, dirty: true, mtime: now }
+    TierRec {
+        state,
+        dirty: true,
+        mtime: now,
+    }
 }
 
-/// The record after the base took its state as of `seq`: clean. Where something acted since then, the record is given
-/// back as it is.
+/// The record after the base took its state as of `seq`: clean. Where something acted since then,
+/// the record is given back as it is.
 pub fn cleaned(record: TierRec, seq: u64) -> Result<TierRec, TierRec>
     ensures { result ≡ cleaned_record «record» seq }
 {
@@ -21,5 +25,9 @@ pub fn cleaned(record: TierRec, seq: u64) -> Result<TierRec, TierRec>
         return Err(record);
     }
     let TierRec { state, mtime, .. } = record;
-    Ok(TierRec { state, dirty: false, mtime })
+    Ok(TierRec {
+        state,
+        dirty: false,
+        mtime,
+    })
 }

@@ -9,8 +9,8 @@ use tier_types::TierRec;
 /// No total is above this.
 pub const TOTAL_LIMIT: u64 = 1 << 40;
 
-/// The totals after the record `old` of a name, if there was one, gave place to `new`, if there is one. Each sum stops
-/// at 0 and at 2^40.
+/// The totals after the record `old` of a name, if there was one, gave place to `new`, if there is
+/// one. Each sum stops at 0 and at 2^40.
 pub fn totals_with(totals: &Totals, old: Option<&TierRec>, new: Option<&TierRec>) -> Totals
     ensures { result ≡ totals_after totals.now (option_copied old.entry) (option_copied new.entry) }
 {

@@ -11,13 +11,15 @@ use Rattle.tier_route.specs.Routes.{route_of}
 
 -- a request is served in the cache exactly where its name has a record
 abbrev pub HitIsCached : Mode → EvictMode → ℕ → Type 0
-HitIsCached mode e count = (write cached met : Bool) → (route_of mode e count write cached met ≡ Go Hit) ↔ (cached ≡ true)
+HitIsCached mode e count =
+    (write cached met : Bool) → (route_of mode e count write cached met ≡ Go Hit) ↔ (cached ≡ true)
 
 -- in proxy mode nothing is promoted and nothing is refused, so a drain can end
 abbrev pub ProxyKeepsOut : EvictMode → ℕ → Type 0
 ProxyKeepsOut e count =
     (write cached met : Bool) →
-    (route_of Proxy e count write cached met ≢ Go Promote) × (route_of Proxy e count write cached met ≢ Full)
+    (route_of Proxy e count write cached met ≢ Go Promote)
+    × (route_of Proxy e count write cached met ≢ Full)
 
 -- a cache in which all may be evicted takes no new name
 abbrev pub FullTakesNothing : Mode → ℕ → Type 0

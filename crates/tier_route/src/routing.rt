@@ -14,8 +14,9 @@ pub enum Routed {
     Full,
 }
 
-/// The path of a request in this mode of the pool. `write` is whether it writes, `cached` whether its name has a
-/// record, `met` whether the hit sets met the recency that a promotion asks of a read or a write.
+/// The path of a request in this mode of the pool. `write` is whether it writes, `cached` whether
+/// its name has a record, `met` whether the hit sets met the recency that a promotion asks of a
+/// read or a write.
 pub fn route(
     mode: Mode,
     evict: EvictMode,
