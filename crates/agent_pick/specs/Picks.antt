@@ -28,8 +28,8 @@ start_of (Some cursor) rows = or_end rows (position (is_behind cursor) rows)
 abbrev pub first_from : (Row → Bool) → ℕ → List Row → Option ℕ
 first_from test start rows =
     option_or
-        (option_map (λ i. start + i) (position test (drop start rows)))
-        (position test (take start rows))
+    (option_map (λ i. start + i) (position test (drop start rows)))
+    (position test (take start rows))
 
 -- what is done with the row
 abbrev pub done_with : ℕ → Row → Chosen

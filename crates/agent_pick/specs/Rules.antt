@@ -49,9 +49,9 @@ flushes flush.High mode aged = true
 abbrev pub wants_flush : Rule → Row → Bool
 wants_flush rule r =
     flushes
-        rule.modes.flush
-        rule.modes.evict
-        (is_aged r.mtime rule.values.cache_min_flush_age rule.moment)
+    rule.modes.flush
+    rule.modes.evict
+    (is_aged r.mtime rule.values.cache_min_flush_age rule.moment)
 
 -- what is asked of a clean record among these
 abbrev pub wants_evict : List Row → Rule → Row → Bool

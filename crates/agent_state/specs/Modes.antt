@@ -117,9 +117,9 @@ modes_of t v s old =
 abbrev pub idle_modes : Modes
 idle_modes =
     record {
-        flush = flush.Idle;
-        evict = evict.Idle;
-        effort = 0;
-        dirty_micro = 0;
-        full_micro = 0
+      flush = flush.Idle;
+      evict = evict.Idle;
+      effort = 0;
+      dirty_micro = 0;
+      full_micro = 0;
     }

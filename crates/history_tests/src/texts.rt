@@ -1,9 +1,11 @@
 //! Texts that were written by hand.
 use obj_model::{
-    Bytes, Items, Kept, Kind, Mode, Name, NameState, NoMemory, Obj, Out, Pair, PairMap, Path, Pool, Reply,
-    Req, SubOp, Vector, Why,
+    Bytes, Items, Kept, Kind, Mode, Name, NameState, NoMemory, Obj, Out, Pair, PairMap, Path, Pool,
+    Reply, Req, SubOp, Vector, Why,
 };
-use report_text::{Counts, Text, Told, answer_text, put_act, put_answer, put_base_row, put_cache_row, put_summary};
+use report_text::{
+    Counts, Text, Told, answer_text, put_act, put_answer, put_base_row, put_cache_row, put_summary,
+};
 use std::alloc::Global;
 use std::process::Abort;
 use std::test::Fail;
@@ -35,7 +37,13 @@ fn blocked(kind: Kind, opid: u64) -> Answer {
 #[test]
 fn answers_to_clients(rt: HostRuntime) -> Result<(), Fail> {
     let mut text = Text::new(rt.alloc());
-    add(&mut text, &Answer::Done { ver: 3, kept: false })?;
+    add(
+        &mut text,
+        &Answer::Done {
+            ver: 3,
+            kept: false,
+        },
+    )?;
     add(&mut text, &Answer::Done { ver: 3, kept: true })?;
     add(&mut text, &refused(0, Why::Exists, 1, false))?;
     add(&mut text, &refused(1, Why::NoEnt, 0, true))?;
@@ -43,17 +51,26 @@ fn answers_to_clients(rt: HostRuntime) -> Result<(), Fail> {
     add(&mut text, &refused(3, Why::Canceled, 9, false))?;
     add(&mut text, &refused(4, Why::Range, 9, false))?;
     add(&mut text, &refused(15, Why::Overflow, 9, false))?;
-    let why = Why::TooBig { limit: 4096, asked: 4097 };
+    let why = Why::TooBig {
+        limit: 4096,
+        asked: 4097,
+    };
     add(&mut text, &refused(0, why, 10, true))?;
     add(&mut text, &Answer::Stale { kept: 5 })?;
-    add(&mut text, &Answer::Worn { limit: 4_611_686_018_427_387_904 })?;
+    add(
+        &mut text,
+        &Answer::Worn {
+            limit: 4_611_686_018_427_387_904,
+        },
+    )?;
     add(&mut text, &blocked(Kind::Promote, 1))?;
     add(&mut text, &blocked(Kind::Write, 2))?;
     add(&mut text, &blocked(Kind::Read, 3))?;
     add(&mut text, &blocked(Kind::Flush, 4))?;
     add(&mut text, &Answer::Full { micro: 1_500_000 })?;
     add(&mut text, &Answer::Restarted { was: 1, now: 2 })?;
-    let want = "done v3 @7|done v3 @7 kept|refused 0 exists v1 @7|refused 1 noent v0 @7 kept|refused 2 nodata v9 @7|refused 3 canceled v9 @7|refused 4 range v9 @7|refused 15 overflow v9 @7|refused 0 toobig 4096 4097 v10 @7 kept|stale 5|worn 4611686018427387904|blocked promote 1|blocked write 2|blocked read 3|blocked flush 4|full 1500000|restarted 1 2|";
+    let want =
+        "done v3 @7|done v3 @7 kept|refused 0 exists v1 @7|refused 1 noent v0 @7 kept|refused 2 nodata v9 @7|refused 3 canceled v9 @7|refused 4 range v9 @7|refused 15 overflow v9 @7|refused 0 toobig 4096 4097 v10 @7 kept|stale 5|worn 4611686018427387904|blocked promote 1|blocked write 2|blocked read 3|blocked flush 4|full 1500000|restarted 1 2|";
     assert!(rt; text.as_slice() == want.as_bytes());
     Ok(())
 }
@@ -70,16 +87,47 @@ fn answers_to_others(rt: HostRuntime) -> Result<(), Fail> {
     add(&mut text, &Answer::Begun { opid: 6 })?;
     add(&mut text, &Answer::NoBegun)?;
     add(&mut text, &Answer::Drained)?;
-    add(&mut text, &Answer::NotProxy { mode: Mode::Writeback })?;
-    add(&mut text, &Answer::NotProxy { mode: Mode::Readproxy })?;
+    add(
+        &mut text,
+        &Answer::NotProxy {
+            mode: Mode::Writeback,
+        },
+    )?;
+    add(
+        &mut text,
+        &Answer::NotProxy {
+            mode: Mode::Readproxy,
+        },
+    )?;
     add(&mut text, &Answer::NotProxy { mode: Mode::Proxy })?;
-    add(&mut text, &Answer::NoSpace { pool: Pool::Base, used: 47, need: 24, limit: 64 })?;
-    add(&mut text, &Answer::HistoryFull { entries: 1_048_576, bytes: 70 })?;
+    add(
+        &mut text,
+        &Answer::NoSpace {
+            pool: Pool::Base,
+            used: 47,
+            need: 24,
+            limit: 64,
+        },
+    )?;
+    add(
+        &mut text,
+        &Answer::HistoryFull {
+            entries: 1_048_576,
+            bytes: 70,
+        },
+    )?;
     add(&mut text, &Answer::DiskFault { pool: Pool::Base })?;
     add(&mut text, &Answer::DiskFault { pool: Pool::Cache })?;
-    add(&mut text, &Answer::Damaged { pool: Pool::Cache, at: 22 })?;
+    add(
+        &mut text,
+        &Answer::Damaged {
+            pool: Pool::Cache,
+            at: 22,
+        },
+    )?;
     add(&mut text, &Answer::NoMemory)?;
-    let want = "flushed 2|clean|absent|again 1 2|evicted 4|dirty 5|begun 6|nothing|drained|notproxy writeback|notproxy readproxy|notproxy proxy|nospace base 47 24 64|historyfull 1048576 70|fault base|fault cache|damaged cache 22|nomemory|";
+    let want =
+        "flushed 2|clean|absent|again 1 2|evicted 4|dirty 5|begun 6|nothing|drained|notproxy writeback|notproxy readproxy|notproxy proxy|nospace base 47 24 64|historyfull 1048576 70|fault base|fault cache|damaged cache 22|nomemory|";
     assert!(rt; text.as_slice() == want.as_bytes());
     Ok(())
 }
@@ -88,18 +136,37 @@ fn answers_to_others(rt: HostRuntime) -> Result<(), Fail> {
 fn answers_with_names(rt: HostRuntime) -> Result<(), Fail> {
     let alloc = rt.alloc();
     let mut text = Text::new(alloc);
-    let left = Answer::Left { count: 2, name: name(&rt, alloc, b"a")?, kind: Kind::Flush, opid: 3 };
+    let left = Answer::Left {
+        count: 2,
+        name: name(&rt, alloc, b"a")?,
+        kind: Kind::Flush,
+        opid: 3,
+    };
     add(&mut text, &left)?;
-    let bad = Answer::BadRecord { pool: Pool::Cache, name: name(&rt, alloc, b"n~")? };
+    let bad = Answer::BadRecord {
+        pool: Pool::Cache,
+        name: name(&rt, alloc, b"n~")?,
+    };
     add(&mut text, &bad)?;
-    let evicted = AgentDid::Evicted { name: name(&rt, alloc, b"a")?, seq: 1 };
+    let evicted = AgentDid::Evicted {
+        name: name(&rt, alloc, b"a")?,
+        seq: 1,
+    };
     add(&mut text, &Answer::Agent(evicted))?;
-    let flushed = AgentDid::Flushed { name: name(&rt, alloc, b"b")?, seq: 2 };
+    let flushed = AgentDid::Flushed {
+        name: name(&rt, alloc, b"b")?,
+        seq: 2,
+    };
     add(&mut text, &Answer::Agent(flushed))?;
-    let again = AgentDid::Again { name: name(&rt, alloc, b"c")?, flushed: 3, now: 4 };
+    let again = AgentDid::Again {
+        name: name(&rt, alloc, b"c")?,
+        flushed: 3,
+        now: 4,
+    };
     add(&mut text, &Answer::Agent(again))?;
     add(&mut text, &Answer::Agent(AgentDid::Nothing))?;
-    let want = "left 2 a flush 3|badrecord cache n~|agent evicted a 1|agent flushed b 2|agent again c 3 4|agent nothing|";
+    let want =
+        "left 2 a flush 3|badrecord cache n~|agent evicted a 1|agent flushed b 2|agent again c 3 4|agent nothing|";
     assert!(rt; text.as_slice() == want.as_bytes());
     Ok(())
 }
@@ -118,8 +185,14 @@ fn values_of_every_kind(rt: HostRuntime) -> Result<(), Fail> {
     keys.push(name(&rt, alloc, b"k2")?)?;
     outs.push(Out::Names(keys))?;
     let mut pairs = Items::new(alloc);
-    pairs.push(Pair { key: name(&rt, alloc, b"p")?, value: bytes(alloc, b"v")? })?;
-    pairs.push(Pair { key: name(&rt, alloc, b"q")?, value: bytes(alloc, b"")? })?;
+    pairs.push(Pair {
+        key: name(&rt, alloc, b"p")?,
+        value: bytes(alloc, b"v")?,
+    })?;
+    pairs.push(Pair {
+        key: name(&rt, alloc, b"q")?,
+        value: bytes(alloc, b"")?,
+    })?;
     outs.push(Out::Pairs(pairs))?;
     let mut text = Text::new(alloc);
     add(&mut text, &Answer::Values { ver: 2, outs })?;
@@ -130,28 +203,50 @@ fn values_of_every_kind(rt: HostRuntime) -> Result<(), Fail> {
 
 // What one group answered, at place 7.
 fn told<'a>(answer: &'a Answer, path: Option<Path>) -> Told<'a> {
-    Told::Answered { answer, path, place: 7 }
+    Told::Answered {
+        answer,
+        path,
+        place: 7,
+    }
 }
 
 #[test]
 fn lines_with_paths(rt: HostRuntime) -> Result<(), Fail> {
     let mut text = Text::new(rt.alloc());
-    let done = Answer::Done { ver: 3, kept: false };
+    let done = Answer::Done {
+        ver: 3,
+        kept: false,
+    };
     let clean = Answer::Clean;
     answer_text(&mut text, 1, &[told(&done, Some(Path::Hit))], true)?;
     answer_text(&mut text, 2, &[told(&done, Some(Path::Promote))], true)?;
     answer_text(&mut text, 3, &[told(&done, Some(Path::ProxyRead))], true)?;
     answer_text(&mut text, 40, &[told(&done, Some(Path::ProxyWrite))], true)?;
     answer_text(&mut text, 5, &[told(&done, Some(Path::Hit))], false)?;
-    answer_text(&mut text, 6, &[told(&clean, None), told(&done, Some(Path::Hit))], true)?;
-    let want = "1 done v3 @7 hit\n2 done v3 @7 promote\n3 done v3 @7 proxy-read\n40 done v3 @7 proxy-write\n5 done v3 @7\n6 clean ; done v3 @7 hit\n";
+    answer_text(
+        &mut text,
+        6,
+        &[told(&clean, None), told(&done, Some(Path::Hit))],
+        true,
+    )?;
+    let want =
+        "1 done v3 @7 hit\n2 done v3 @7 promote\n3 done v3 @7 proxy-read\n40 done v3 @7 proxy-write\n5 done v3 @7\n6 clean ; done v3 @7 hit\n";
     assert!(rt; text.as_slice() == want.as_bytes());
     text.clear();
     answer_text(&mut text, 1, &[Told::Mode { mode: Mode::Proxy }], true)?;
     answer_text(&mut text, 2, &[Told::Time { moment: 60 }], true)?;
-    answer_text(&mut text, 3, &[Told::CacheStopped { epoch: 2 }, Told::CacheStopped { epoch: 9 }], true)?;
+    answer_text(
+        &mut text,
+        3,
+        &[
+            Told::CacheStopped { epoch: 2 },
+            Told::CacheStopped { epoch: 9 },
+        ],
+        true,
+    )?;
     answer_text(&mut text, 4, &[Told::BaseStopped], false)?;
-    let want = "1 mode proxy\n2 time 60\n3 stopped cache epoch 2 ; stopped cache epoch 9\n4 stopped base\n";
+    let want =
+        "1 mode proxy\n2 time 60\n3 stopped cache epoch 2 ; stopped cache epoch 9\n4 stopped base\n";
     assert!(rt; text.as_slice() == want.as_bytes());
     Ok(())
 }
@@ -161,16 +256,35 @@ fn act(rt: &impl Abort, alloc: Global, tid: u64, reply: Reply) -> Result<Act, Fa
     let mut ops = Vec::new(alloc);
     ops.push(SubOp::Remove)?;
     let vector = Vector::new(ops).expect(rt, "a vector");
-    let req = Req { client: 12, tid, name: name(rt, alloc, b"a")?, vector };
-    Ok(Act { call: 1, line: 2, req, reply })
+    let req = Req {
+        client: 12,
+        tid,
+        name: name(rt, alloc, b"a")?,
+        vector,
+    };
+    Ok(Act {
+        call: 1,
+        line: 2,
+        req,
+        reply,
+    })
 }
 
 #[test]
 fn acts_of_a_history(rt: HostRuntime) -> Result<(), Fail> {
     let alloc = rt.alloc();
     let mut text = Text::new(alloc);
-    put_act(&mut text, 0, 1, &act(&rt, alloc, 8, Reply::Done { ver: 4 })?)?;
-    let reply = Reply::Refused { at: 2, why: Why::NoEnt, ver: 4 };
+    put_act(
+        &mut text,
+        0,
+        1,
+        &act(&rt, alloc, 8, Reply::Done { ver: 4 })?,
+    )?;
+    let reply = Reply::Refused {
+        at: 2,
+        why: Why::NoEnt,
+        ver: 4,
+    };
     put_act(&mut text, 3, 2, &act(&rt, alloc, 9, reply)?)?;
     let want = "act 0 1 12 8 a done v4\nact 3 2 12 9 a refused 2 noent v4\n";
     assert!(rt; text.as_slice() == want.as_bytes());
@@ -186,10 +300,22 @@ fn state(rt: &impl Abort, alloc: Global, there: bool) -> Result<NameState, Fail>
         let mut attrs = PairMap::new(alloc);
         attrs.insert(name(rt, alloc, b"k")?, bytes(alloc, b"v")?)?;
         let omap = PairMap::new(alloc);
-        state.obj = Some(Obj { body: bytes(alloc, b"abc")?, attrs, omap });
+        state.obj = Some(Obj {
+            body: bytes(alloc, b"abc")?,
+            attrs,
+            omap,
+        });
         let reply = Reply::Done { ver: 1 };
-        state.seen.push(Kept { client: 1, tid: 1, reply })?;
-        state.seen.push(Kept { client: 2, tid: 1, reply })?;
+        state.seen.push(Kept {
+            client: 1,
+            tid: 1,
+            reply,
+        })?;
+        state.seen.push(Kept {
+            client: 2,
+            tid: 1,
+            reply,
+        })?;
     }
     Ok(state)
 }
@@ -202,7 +328,8 @@ fn rows_of_both_pools(rt: HostRuntime) -> Result<(), Fail> {
     put_cache_row(&mut text, 0, &a, true, &state(&rt, alloc, true)?)?;
     put_cache_row(&mut text, 15, &a, false, &state(&rt, alloc, false)?)?;
     put_base_row(&mut text, 1, &a, &state(&rt, alloc, true)?)?;
-    let want = "cache 0 a dirty v2 q5 bytes 3 attrs 1 omap 0 ids 2\ncache 15 a clean v2 q5 gone ids 0\nbase 1 a v2 q5 bytes 3 attrs 1 omap 0 ids 2\n";
+    let want =
+        "cache 0 a dirty v2 q5 bytes 3 attrs 1 omap 0 ids 2\ncache 15 a clean v2 q5 gone ids 0\nbase 1 a v2 q5 bytes 3 attrs 1 omap 0 ids 2\n";
     assert!(rt; text.as_slice() == want.as_bytes());
     Ok(())
 }
@@ -221,18 +348,41 @@ fn note(rt: &impl Abort, counts: &mut Counts, answer: &Answer) {
 #[test]
 fn summary_of_a_run(rt: HostRuntime) -> Result<(), Fail> {
     let mut counts = Counts::new();
-    note(&rt, &mut counts, &Answer::Done { ver: 1, kept: false });
+    note(
+        &rt,
+        &mut counts,
+        &Answer::Done {
+            ver: 1,
+            kept: false,
+        },
+    );
     note(&rt, &mut counts, &Answer::Done { ver: 1, kept: true });
     note(&rt, &mut counts, &refused(0, Why::NoEnt, 1, false));
     note(&rt, &mut counts, &refused(0, Why::NoEnt, 1, true));
     note(&rt, &mut counts, &refused(0, Why::NoEnt, 1, true));
-    note(&rt, &mut counts, &Answer::Values { ver: 1, outs: Items::new(rt.alloc()) });
+    note(
+        &rt,
+        &mut counts,
+        &Answer::Values {
+            ver: 1,
+            outs: Items::new(rt.alloc()),
+        },
+    );
     note(&rt, &mut counts, &Answer::Stale { kept: 1 });
     note(&rt, &mut counts, &blocked(Kind::Flush, 1));
     note(&rt, &mut counts, &Answer::Full { micro: 1_000_001 });
     note(&rt, &mut counts, &Answer::Clean);
     note(&rt, &mut counts, &Answer::NoMemory);
-    let want = Counts { done: 1, refused: 1, values: 1, kept: 3, stale: 1, blocked: 1, full: 1, other: 2 };
+    let want = Counts {
+        done: 1,
+        refused: 1,
+        values: 1,
+        kept: 3,
+        stale: 1,
+        blocked: 1,
+        full: 1,
+        other: 2,
+    };
     assert!(rt; counts == want);
     let mut text = Text::new(rt.alloc());
     put_summary(&mut text, &want)?;

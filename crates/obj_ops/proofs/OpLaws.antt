@@ -1,11 +1,7 @@
 -- The laws of sub-operations.
-use Rattle.std.proofs.Common.{◌≡◌, ◌≤◌, ◌<◌, ℕ, ◌+◌, Bool, true, false, cond, List, [], ◌∷◌, ◌++◌, length, take, drop, Option, Some, None, Result, Ok, Err, nat_lt, eqb, refl, sym, ap, subst, ◌∙◌, arith, append_assoc}
-use Rattle.std.specs.FinMap as fin
+use Rattle.std.proofs.Common.{◌≡◌, ◌<◌, ℕ, ◌+◌, Bool, true, false, cond, List, [], ◌∷◌, ◌++◌, length, take, drop, Option, Some, Result, Ok, Err, nat_lt, eqb, refl, sym, ap, subst, ◌∙◌, arith, append_assoc}
 use Rattle.std.proofs.Math.Seq.{take-append_seam, drop-append_seam}
-use Rattle.std.proofs.lemmas.Bool.{eqb-false}
-use Rattle.std.proofs.lemmas.Bool.Decides.{nat_tests}
 use Rattle.obj_model.specs.Limits.{body_limit}
-use Rattle.obj_model.specs.SubOps.{is_write}
 use Rattle.obj_model.specs.declared.sub_op.SubOp.{SubOp}
 use Rattle.obj_model.specs.declared.sub_op.SubOp.TheVariants.{Create, WriteFull, Write, Append, Zero, Truncate, Remove, SetXattr, RmXattr, OmapSet, OmapRm, OmapClear, AssertExists, AssertVer, CmpXattr, Read, Stat, GetXattr, ListXattrs, OmapGet, OmapList}
 use Rattle.obj_model.specs.declared.state.Obj.{Obj}
@@ -13,9 +9,9 @@ use Rattle.obj_model.specs.declared.reply.Why.{Why}
 use Rattle.obj_model.specs.declared.reply.Why.TheVariants.{TooBig}
 use Rattle.obj_model.specs.declared.out.Out.{Out}
 use Rattle.obj_model.specs.declared.out.Out.TheVariants.{Checked, Bytes}
-use Rattle.obj_ops.specs.Effects.{Change, Telling, made, within, put_body, part, written, resized, with_body, with_bytes, with_more, with_zeros, with_size}
-use Rattle.obj_ops.specs.Ops.{Step, Run, Refusal, left_by, leaves, tells, sub, telling, go_on, run_from, run}
-use Rattle.obj_ops.specs.OpLaws.{AppendsJoin, LookersChangeNothing, is_on_body, SameTables, TablesSurvive, FirstRefusalRefuses, WrittenIsRead}
+use Rattle.obj_ops.specs.Effects.{Change, Telling, made, within, put_body, part, written, resized, with_more}
+use Rattle.obj_ops.specs.Ops.{Step, Run, Refusal, left_by, leaves, tells, sub, telling, go_on, run_from}
+use Rattle.obj_ops.specs.OpLaws.{AppendsJoin, LookersChangeNothing, SameTables, TablesSurvive, FirstRefusalRefuses, WrittenIsRead}
 use Rattle.obj_ops.proofs.Bodies.{length-resized}
 use Rattle.obj_ops.proofs.Keeping.{ne-eqb}
 

@@ -1,15 +1,13 @@
 -- What follows from the table of sub-operations, in plain words.
-use Rattle.std.specs.Prelude.{◌≡◌, ◌≤◌, ◌<◌, ℕ, ◌+◌, Bool, true, false, List, [], ◌∷◌, ◌++◌, length, Option, Some, None, Result, Ok, Err}
-use Rattle.std.specs.FinMap as fin
-use Rattle.obj_model.specs.Limits.{body_limit}
+use Rattle.std.specs.Prelude.{◌≡◌, ◌<◌, ℕ, Bool, true, false, List, [], ◌∷◌, ◌++◌, length, Option, Some, None, Ok, Err}
 use Rattle.obj_model.specs.SubOps.{is_write}
 use Rattle.obj_model.specs.declared.sub_op.SubOp.{SubOp}
 use Rattle.obj_model.specs.declared.sub_op.SubOp.TheVariants.{Create, WriteFull, Write, Append, Zero, Truncate, Remove, Read}
 use Rattle.obj_model.specs.declared.state.Obj.{Obj}
 use Rattle.obj_model.specs.declared.reply.Why.{Why}
 use Rattle.obj_model.specs.declared.out.Out.TheVariants.{Bytes}
-use Rattle.obj_ops.specs.Effects.{empty_obj, made}
-use Rattle.obj_ops.specs.Ops.{Step, Run, Refusal, left_by, sub, run}
+use Rattle.obj_ops.specs.Effects.{empty_obj}
+use Rattle.obj_ops.specs.Ops.{Step, Run, left_by, sub, run}
 use Rattle.obj_ops.specs.Acts.{ran_of}
 use Rattle.obj_ops.specs.declared.run.Ran.TheVariants.{Accepted}
 

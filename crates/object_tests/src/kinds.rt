@@ -58,7 +58,10 @@ pub fn object(alloc: Global, text: &str) -> Result<Option<Obj>, Fail> {
     if !vector.writes() {
         return Err("a write vector".into());
     }
-    match run_vector(alloc, &NameState::unknown(alloc), &vector).ok().ok_or("memory")? {
+    match run_vector(alloc, &NameState::unknown(alloc), &vector)
+        .ok()
+        .ok_or("memory")?
+    {
         Ran::Accepted(obj) => Ok(obj),
         Ran::Refused { .. } => Err("accepted".into()),
     }
@@ -76,8 +79,16 @@ fn writing_kinds(rt: HostRuntime) -> Result<(), Fail> {
         ("write 6 XY", "......XY||", "012345XY|k=v1|a=1,b=2,c=3"),
         ("write 7 XY", ".......XY||", "0123456XY|k=v1|a=1,b=2,c=3"),
         ("write 8 XY", "........XY||", "01234567XY|k=v1|a=1,b=2,c=3"),
-        ("write 10 XY", "..........XY||", "01234567..XY|k=v1|a=1,b=2,c=3"),
-        ("write 0 0123456789", "0123456789||", "0123456789|k=v1|a=1,b=2,c=3"),
+        (
+            "write 10 XY",
+            "..........XY||",
+            "01234567..XY|k=v1|a=1,b=2,c=3",
+        ),
+        (
+            "write 0 0123456789",
+            "0123456789||",
+            "0123456789|k=v1|a=1,b=2,c=3",
+        ),
         ("write 12 -", "||", "01234567|k=v1|a=1,b=2,c=3"),
         ("write 3 -", "||", "01234567|k=v1|a=1,b=2,c=3"),
         ("append ZZ", "ZZ||", "01234567ZZ|k=v1|a=1,b=2,c=3"),
@@ -89,8 +100,16 @@ fn writing_kinds(rt: HostRuntime) -> Result<(), Fail> {
         ("zero 20 5", "none", "01234567|k=v1|a=1,b=2,c=3"),
         ("zero 0 8", "none", "........|k=v1|a=1,b=2,c=3"),
         ("zero 2 0", "none", "01234567|k=v1|a=1,b=2,c=3"),
-        ("zero 7 4611686018427387904", "none", "0123456.|k=v1|a=1,b=2,c=3"),
-        ("zero 4611686018427387904 9", "none", "01234567|k=v1|a=1,b=2,c=3"),
+        (
+            "zero 7 4611686018427387904",
+            "none",
+            "0123456.|k=v1|a=1,b=2,c=3",
+        ),
+        (
+            "zero 4611686018427387904 9",
+            "none",
+            "01234567|k=v1|a=1,b=2,c=3",
+        ),
         ("truncate 4", "none", "0123|k=v1|a=1,b=2,c=3"),
         ("truncate 8", "none", "01234567|k=v1|a=1,b=2,c=3"),
         ("truncate 10", "none", "01234567..|k=v1|a=1,b=2,c=3"),
@@ -108,11 +127,23 @@ fn writing_kinds(rt: HostRuntime) -> Result<(), Fail> {
         ("omaprm z", "0 noent", "01234567|k=v1|a=1,b=2,c=3"),
         ("omapclear", "0 noent", "01234567|k=v1|"),
         // guards before a write
-        ("assert_exists ; append !", "0 noent", "01234567!|k=v1|a=1,b=2,c=3"),
-        ("assert_ver 3 ; append !", "!||", "01234567!|k=v1|a=1,b=2,c=3"),
+        (
+            "assert_exists ; append !",
+            "0 noent",
+            "01234567!|k=v1|a=1,b=2,c=3",
+        ),
+        (
+            "assert_ver 3 ; append !",
+            "!||",
+            "01234567!|k=v1|a=1,b=2,c=3",
+        ),
         ("assert_ver 2 ; append !", "0 range", "0 range"),
         ("assert_ver 4 ; append !", "0 overflow", "0 overflow"),
-        ("cmpxattr k v1 ; append !", "0 noent", "01234567!|k=v1|a=1,b=2,c=3"),
+        (
+            "cmpxattr k v1 ; append !",
+            "0 noent",
+            "01234567!|k=v1|a=1,b=2,c=3",
+        ),
         ("cmpxattr k v ; append !", "0 noent", "0 canceled"),
         ("cmpxattr n - ; append !", "0 noent", "0 nodata"),
         ("assert_ver 3 ; assert_exists ; remove", "1 noent", "none"),
@@ -122,18 +153,38 @@ fn writing_kinds(rt: HostRuntime) -> Result<(), Fail> {
         ("append ! ; remove ; remove", "2 noent", "2 noent"),
         ("append ! ; create", "1 exists", "1 exists"),
         ("remove ; rmxattr k", "0 noent", "1 noent"),
-        ("writefull ab ; cmpxattr k v1 ; assert_ver 9", "1 nodata", "2 overflow"),
+        (
+            "writefull ab ; cmpxattr k v1 ; assert_ver 9",
+            "1 nodata",
+            "2 overflow",
+        ),
         // a guard sees the object as the vector has left it, and the version from before it
-        ("setxattr k v9 ; cmpxattr k v9", "|k=v9|", "01234567|k=v9|a=1,b=2,c=3"),
+        (
+            "setxattr k v9 ; cmpxattr k v9",
+            "|k=v9|",
+            "01234567|k=v9|a=1,b=2,c=3",
+        ),
         ("setxattr k v9 ; cmpxattr k v1", "1 canceled", "1 canceled"),
-        ("append ! ; assert_ver 3", "!||", "01234567!|k=v1|a=1,b=2,c=3"),
+        (
+            "append ! ; assert_ver 3",
+            "!||",
+            "01234567!|k=v1|a=1,b=2,c=3",
+        ),
         ("remove ; assert_exists", "0 noent", "1 noent"),
         // steps see what those before them left
         ("remove ; create", "0 noent", "||"),
         ("remove ; append N", "0 noent", "N||"),
         ("create ; remove", "none", "0 exists"),
-        ("writefull ab ; append cd ; write 1 XY ; truncate 6", "aXYd..||", "aXYd..|k=v1|a=1,b=2,c=3"),
-        ("zero 0 8 ; write 4 Q", "....Q||", "....Q...|k=v1|a=1,b=2,c=3"),
+        (
+            "writefull ab ; append cd ; write 1 XY ; truncate 6",
+            "aXYd..||",
+            "aXYd..|k=v1|a=1,b=2,c=3",
+        ),
+        (
+            "zero 0 8 ; write 4 Q",
+            "....Q||",
+            "....Q...|k=v1|a=1,b=2,c=3",
+        ),
         ("omapclear ; omapset d 4", "0 noent", "01234567|k=v1|d=4"),
         (
             "create ; assert_exists ; setxattr k 1 ; cmpxattr k 1 ; append ab ; assert_ver 3 ; write 4 cd ; truncate 5 ; zero 0 1 ; omapset p q ; omaprm p ; omapset r s ; rmxattr k ; assert_exists ; omapset t u ; append z",
@@ -197,14 +248,26 @@ fn reading_kinds(rt: HostRuntime) -> Result<(), Fail> {
         ("cmpxattr k v12", "0 canceled", "0 noent"),
         ("cmpxattr n -", "0 nodata", "0 noent"),
         // vectors: the outs in order, or the first refusal alone
-        ("assert_ver 3 ; stat ; read 0 2 ; listxattrs", "ok;8;01;k", "1 noent"),
+        (
+            "assert_ver 3 ; stat ; read 0 2 ; listxattrs",
+            "ok;8;01;k",
+            "1 noent",
+        ),
         ("stat ; getxattr n ; assert_ver 2", "1 nodata", "0 noent"),
-        ("stat ; cmpxattr k v1 ; omaplist a 1 ; assert_ver 4", "3 overflow", "0 noent"),
+        (
+            "stat ; cmpxattr k v1 ; omaplist a 1 ; assert_ver 4",
+            "3 overflow",
+            "0 noent",
+        ),
     ];
     let absent = state_with(alloc, None);
     let present = state_with(alloc, object(alloc, PRESENT)?);
     for (text, on_present, on_absent) in &table {
-        assert_eq!(rt; told(alloc, &present, text)?.as_str(), *on_present, "{text}");
+        assert_eq!(rt;
+            told(alloc, &present, text)?.as_str(),
+            *on_present,
+            "{text}"
+        );
         assert_eq!(rt; told(alloc, &absent, text)?.as_str(), *on_absent, "{text}");
     }
     Ok(())

@@ -78,7 +78,11 @@ fn bodies(rt: HostRuntime) -> Result<(), Fail> {
             "0 toobig 1048576 4611686018427387904",
             "none",
         ),
-        ("create ; truncate 1048577", "0 exists", "1 toobig 1048576 1048577"),
+        (
+            "create ; truncate 1048577",
+            "0 exists",
+            "1 toobig 1048576 1048577",
+        ),
         ("zero 1048570 4611686018427387904", "#1048575||", "none"),
     ];
     let full = state_of(alloc, 1_048_575, 0, 0)?;
@@ -97,7 +101,11 @@ fn tables(rt: HostRuntime) -> Result<(), Fail> {
     let table: [(&str, &str, &str); 14] = [
         ("setxattr new v", "|#64|#1023", "0 toobig 64 65"),
         ("setxattr k0 new", "|#63|#1023", "|#64|#1024"),
-        ("setxattr a v ; setxattr b v", "1 toobig 64 65", "0 toobig 64 65"),
+        (
+            "setxattr a v ; setxattr b v",
+            "1 toobig 64 65",
+            "0 toobig 64 65",
+        ),
         ("rmxattr k0 ; setxattr new v", "|#63|#1023", "|#64|#1024"),
         ("setxattr k0 *4096", "|#63|#1023", "|#64|#1024"),
         (
@@ -113,7 +121,11 @@ fn tables(rt: HostRuntime) -> Result<(), Fail> {
         ),
         ("omapset new v", "|#63|#1024", "0 toobig 1024 1025"),
         ("omapset k0 new", "|#63|#1023", "|#64|#1024"),
-        ("omapset a v ; omapset b v", "1 toobig 1024 1025", "0 toobig 1024 1025"),
+        (
+            "omapset a v ; omapset b v",
+            "1 toobig 1024 1025",
+            "0 toobig 1024 1025",
+        ),
         ("omaprm k7 ; omapset new v", "|#63|#1023", "|#64|#1024"),
         ("omapset k0 *4096", "|#63|#1023", "|#64|#1024"),
         (

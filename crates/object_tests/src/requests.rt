@@ -97,9 +97,19 @@ fn lines_on_one_name(rt: HostRuntime) -> Result<(), Fail> {
         (false, 0, "read 0 0", "values v2 ...."),
         // a refused vector leaves the object, acts, and is kept with its refusal
         (true, 1, "create", "done v1"),
-        (false, 2, "setxattr k a ; assert_ver 9", "refused 1 overflow v1"),
+        (
+            false,
+            2,
+            "setxattr k a ; assert_ver 9",
+            "refused 1 overflow v1",
+        ),
         (false, 0, "listxattrs", "values v1 "),
-        (false, 2, "setxattr k a ; assert_ver 9", "refused 1 overflow v1 kept"),
+        (
+            false,
+            2,
+            "setxattr k a ; assert_ver 9",
+            "refused 1 overflow v1 kept",
+        ),
         (false, 3, "assert_ver 0 ; remove", "refused 0 range v1"),
         // a body above the limit is refused with the size that was asked
         (true, 1, "writefull *1048576", "done v1"),

@@ -1,5 +1,5 @@
 //! What the tables share: vectors and objects as short texts.
-use obj_model::{Bytes, Name, NameState, Obj, Out, PairMap, Pair, SubOp, Vector, Why};
+use obj_model::{Bytes, Name, NameState, Obj, Out, Pair, PairMap, SubOp, Vector, Why};
 use std::alloc::Global;
 use std::fmt::Write;
 use std::test::Fail;
