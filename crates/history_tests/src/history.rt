@@ -1,7 +1,9 @@
 //! Pushes into a history, and what its entries weigh.
 ghost use Rattle.std.specs.Prelude.{◌≤◌};
 
-use obj_model::{Bytes, Items, Name, NameState, Obj, Out, Pair, PairMap, Reply, Req, SubOp, Vector};
+use obj_model::{
+    Bytes, Items, Name, NameState, Obj, Out, Pair, PairMap, Reply, Req, SubOp, Vector,
+};
 use std::alloc::Global;
 use std::process::Abort;
 use std::test::Fail;
@@ -18,10 +20,22 @@ fn bytes(alloc: Global, bytes: &[u8]) -> Result<Bytes, Fail> {
 // An act that gives the name `n` a body of 4 bytes.
 fn act(rt: &impl Abort, alloc: Global, tid: u64) -> Result<Act, Fail> {
     let mut ops = Vec::new(alloc);
-    ops.push(SubOp::WriteFull { bytes: bytes(alloc, b"abcd")? })?;
+    ops.push(SubOp::WriteFull {
+        bytes: bytes(alloc, b"abcd")?,
+    })?;
     let vector = Vector::new(ops).expect(rt, "a vector");
-    let req = Req { client: 1, tid, name: name(rt, alloc, b"n")?, vector };
-    Ok(Act { call: tid, line: 1, req, reply: Reply::Done { ver: 1 } })
+    let req = Req {
+        client: 1,
+        tid,
+        name: name(rt, alloc, b"n")?,
+        vector,
+    };
+    Ok(Act {
+        call: tid,
+        line: 1,
+        req,
+        reply: Reply::Done { ver: 1 },
+    })
 }
 
 // The opening of `n` at this version, with a body of 3 bytes, and a key of 2 bytes with a value of
@@ -31,12 +45,27 @@ fn opening(rt: &impl Abort, alloc: Global, ver: u64) -> Result<First, Fail> {
     attrs.insert(name(rt, alloc, b"kk")?, bytes(alloc, b"vvvvv")?)?;
     let mut state = NameState::unknown(alloc);
     state.ver = ver;
-    state.obj = Some(Obj { body: bytes(alloc, b"abc")?, attrs, omap: PairMap::new(alloc) });
-    Ok(First { name: name(rt, alloc, b"n")?, state })
+    state.obj = Some(Obj {
+        body: bytes(alloc, b"abc")?,
+        attrs,
+        omap: PairMap::new(alloc),
+    });
+    Ok(First {
+        name: name(rt, alloc, b"n")?,
+        state,
+    })
 }
 
 fn logged(call: u64, answer: Answer) -> Logged {
-    Logged { call, line: 1, begin: 0, place: 0, end: 0, path: None, answer }
+    Logged {
+        call,
+        line: 1,
+        begin: 0,
+        place: 0,
+        end: 0,
+        path: None,
+        answer,
+    }
 }
 
 // An answer whose outs weigh 2 + 3 + 1 + 4 bytes.
@@ -49,7 +78,10 @@ fn values(rt: &impl Abort, alloc: Global) -> Result<Answer, Fail> {
     keys.push(name(rt, alloc, b"kkk")?)?;
     outs.push(Out::Names(keys))?;
     let mut pairs = Items::new(alloc);
-    pairs.push(Pair { key: name(rt, alloc, b"p")?, value: bytes(alloc, b"vvvv")? })?;
+    pairs.push(Pair {
+        key: name(rt, alloc, b"p")?,
+        value: bytes(alloc, b"vvvv")?,
+    })?;
     outs.push(Out::Pairs(pairs))?;
     Ok(Answer::Values { ver: 1, outs })
 }

@@ -34,8 +34,16 @@ class_of all = Other
 -- no line
 abbrev pub no_counts : Counts
 no_counts =
-    record { done = 0; refused = 0; values = 0; kept = 0; stale = 0; blocked = 0; full = 0;
-    other = 0 }
+    record {
+      done = 0;
+      refused = 0;
+      values = 0;
+      kept = 0;
+      stale = 0;
+      blocked = 0;
+      full = 0;
+      other = 0;
+    }
 
 -- one more line
 abbrev pub counted : Class → Counts → Counts

@@ -5,7 +5,8 @@ ghost use Rattle.report_text.specs.Words.{kept_text, key_text, kind_text, number
 
 use crate::Text;
 use crate::words::{
-    kind_word, mode_word, pool_word, put_kept, put_name, put_number, put_outs, put_standing, put_why,
+    kind_word, mode_word, pool_word, put_kept, put_name, put_number, put_outs, put_standing,
+    put_why,
 };
 use obj_model::{Kind, Name, NoMemory, Out, Pool, Why};
 use tier_chron::{AgentDid, Answer};
@@ -32,10 +33,20 @@ pub fn put_answer(text: &mut Text, answer: &Answer, place: u64) -> Result<(), No
         Answer::Begun { opid } => put_one(text, "begun", *opid),
         Answer::NoBegun => text.push("nothing"),
         Answer::Drained => text.push("drained"),
-        Answer::Left { count, name, kind, opid } => put_left(text, *count, name, *kind, *opid),
+        Answer::Left {
+            count,
+            name,
+            kind,
+            opid,
+        } => put_left(text, *count, name, *kind, *opid),
         Answer::NotProxy { mode } => put_pair(text, "notproxy ", mode_word(*mode)),
         Answer::Agent(did) => put_did(text, did),
-        Answer::NoSpace { pool, used, need, limit } => put_no_space(text, *pool, *used, *need, *limit),
+        Answer::NoSpace {
+            pool,
+            used,
+            need,
+            limit,
+        } => put_no_space(text, *pool, *used, *need, *limit),
         Answer::HistoryFull { entries, bytes } => put_two(text, "historyfull", *entries, *bytes),
         Answer::DiskFault { pool } => put_pair(text, "fault ", pool_word(*pool)),
         Answer::Damaged { pool, at } => put_damaged(text, *pool, *at),
@@ -80,7 +91,14 @@ fn put_done(text: &mut Text, ver: u64, kept: bool, place: u64) -> Result<(), NoM
 }
 
 // A refused request.
-fn put_refused(text: &mut Text, at: u8, why: Why, ver: u64, kept: bool, place: u64) -> Result<(), NoMemory>
+fn put_refused(
+    text: &mut Text,
+    at: u8,
+    why: Why,
+    ver: u64,
+    kept: bool,
+    place: u64,
+) -> Result<(), NoMemory>
     ensures { OnOk result (text.new ≡ text.old ++ codes "refused" ++ number_text at
         ++ codes " " ++ why_text why
         ++ standing_text ver place ++ kept_text kept) }
@@ -152,7 +170,13 @@ fn put_named(text: &mut Text, word: &str, name: &Name, number: u64) -> Result<()
 }
 
 // A pool without room.
-fn put_no_space(text: &mut Text, pool: Pool, used: u64, need: u64, limit: u64) -> Result<(), NoMemory>
+fn put_no_space(
+    text: &mut Text,
+    pool: Pool,
+    used: u64,
+    need: u64,
+    limit: u64,
+) -> Result<(), NoMemory>
     ensures { OnOk result (text.new ≡ text.old ++ codes "nospace " ++ pool_text pool
         ++ number_text used
         ++ number_text need ++ number_text limit) }

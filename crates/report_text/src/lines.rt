@@ -8,10 +8,14 @@ use crate::{Text, Told};
 use obj_model::{NoMemory, Path};
 use tier_chron::Act;
 
-/// Puts the text of a line behind a text: its number, what it is told of each group, joined with
-/// ` ; `, and a newline.
-/// With `paths` each answer that has a path is followed by it.
-pub fn answer_text(text: &mut Text, number: u32, told: &[Told<'_>], paths: bool) -> Result<(), NoMemory>
+/// Puts the text of a line behind a text: its number, what it is told of each group, joined with `
+/// ; `, and a newline. With `paths` each answer that has a path is followed by it.
+pub fn answer_text(
+    text: &mut Text,
+    number: u32,
+    told: &[Told<'_>],
+    paths: bool,
+) -> Result<(), NoMemory>
     ensures { OnOk result (text.new ≡ text.old ++ line_text paths number told.now) }
 {
     text.push_number(u64::from(number))?;
@@ -56,7 +60,11 @@ fn put_told(text: &mut Text, told: &Told<'_>, paths: bool) -> Result<(), NoMemor
     ensures { OnOk result (text.new ≡ text.old ++ told_text paths told.now) }
 {
     match told {
-        Told::Answered { answer, path, place } => {
+        Told::Answered {
+            answer,
+            path,
+            place,
+        } => {
             put_answer(text, answer, *place)?;
             put_way(text, *path, paths)
         }

@@ -25,7 +25,12 @@ pub fn put_cache_row(
 }
 
 /// Puts the row of a state of the base behind a text.
-pub fn put_base_row(text: &mut Text, group: u32, name: &Name, state: &NameState) -> Result<(), NoMemory>
+pub fn put_base_row(
+    text: &mut Text,
+    group: u32,
+    name: &Name,
+    state: &NameState,
+) -> Result<(), NoMemory>
     ensures { OnOk result (text.new ≡ text.old ++ base_text group name.now state.now) }
 {
     text.push("base")?;

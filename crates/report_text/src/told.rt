@@ -12,11 +12,17 @@ pub enum Told<'a> {
         place: u64,
     },
     /// The mode that was set.
-    Mode { mode: Mode },
+    Mode {
+        mode: Mode,
+    },
     /// The moment that was set.
-    Time { moment: u64 },
+    Time {
+        moment: u64,
+    },
     /// The cache was stopped, and the group's epoch is this one since.
-    CacheStopped { epoch: u64 },
+    CacheStopped {
+        epoch: u64,
+    },
     /// The base was stopped.
     BaseStopped,
 }

@@ -29,7 +29,7 @@ opened_keeps (g ∷ opening) f name h =
     either_way (bytes_eq name g.name)
     (λ e. ap (λ b. is_some (cond b (Some g.state) (opening_of (opening ++ f ∷ []) name))) e)
     (λ e. ap (λ b. is_some (cond b (Some g.state) (opening_of (opening ++ f ∷ []) name))) e
-        ∙ opened_keeps opening f name (sym (ap (λ b. is_some (cond b (Some g.state) (opening_of opening name))) e) ∙ h))
+    ∙ opened_keeps opening f name (sym (ap (λ b. is_some (cond b (Some g.state) (opening_of opening name))) e) ∙ h))
 
 opened_now : (opening : List First) (f : First) (name : List ℕ) → f.name ≡ name → is_opened (opening ++ f ∷ []) name ≡ true
 opened_now [] f name e = ap (λ b. is_some (cond b (Some f.state) None)) (same_bytes name f.name (sym e))
@@ -43,8 +43,10 @@ not_opened [] name e = tt
 not_opened (f ∷ opening) name e =
     either_way (bytes_eq name f.name)
     (λ h. absurd (true≢false (sym (ap (λ b. is_some (cond b (Some f.state) (opening_of opening name))) h) ∙ e)))
-    (λ h. (λ same. other_bytes name f.name h (sym same),
-        not_opened opening name (sym (ap (λ b. is_some (cond b (Some f.state) (opening_of opening name))) h) ∙ e)))
+    (λ h. (
+      λ same. other_bytes name f.name h (sym same),
+      not_opened opening name (sym (ap (λ b. is_some (cond b (Some f.state) (opening_of opening name))) h) ∙ e),
+    ))
 
 once_push : (opening : List First) (f : First) → AreOnce opening → AllByRecursion (λ g. g.name ≢ f.name) opening → AreOnce (opening ++ f ∷ [])
 once_push [] f h k = (tt, tt)
@@ -105,7 +107,7 @@ first_push start log a None h is = h.first
 first_push start log a (Some f) h is =
     let new : is_opened log.opening f.name ≡ false = ap (is_opened log.opening) is.1 ∙ is.0 in
     let old : state_of (behind start log.acts) f.name ≡ state_of start f.name =
-        behind_other log.acts start f.name (untouched log.opening f.name log.acts new h.ordered.opened.all) in
+    behind_other log.acts start f.name (untouched log.opening f.name log.acts new h.ordered.opened.all) in
     subst (AllByRecursion (λ g. g.state ≡ state_of start g.name)) (sym (opened_behind log.opening f new))
     (all_push (λ g. g.state ≡ state_of start g.name) log.opening f h.first (is.2 ∙ old))
 

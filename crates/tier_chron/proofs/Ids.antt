@@ -50,7 +50,7 @@ id_is_spent s r q reply client tid done t given =
     act_cases (λ a. a ≡ Fresh t given → ⊥) s q
     (λ k e lt h. absurd (cc)) (λ k e same h. absurd (cc)) (λ e newer h. absurd (cc))
     (λ room newer h. done_not_newer s r reply done
-        (same_newer r q (kept_of r.client s.seen) tid (subst (λ c. IsNewer q (kept_of c s.seen)) client newer)))
+    (same_newer r q (kept_of r.client s.seen) tid (subst (λ c. IsNewer q (kept_of c s.seen)) client newer)))
 
 -- behind one act, and then others, no act has its id
 no_more : (start : Store) (a : Act) (others acts : List Act) → Acts start a → AreFresh (behind (behind_one start a.req) others) acts

@@ -37,10 +37,11 @@ opened_old es f h =
 pub opened_new : {S : Type 0} (m : IndexMap (List ℕ) NameState S) (f : First) → is_some (lookup (bytes_eq f.name) m.entries) ≡ false
     → (map first_of (insert_entry bytes_eq m.entries f.name f.state) ≡ opened (Some f) (map first_of m.entries)) × (opened_weight (Some f) (map first_of m.entries) ≡ first_weight f)
 opened_new m f h =
-    let away : is_opened (map first_of m.entries) f.name ≡ false = sym (found_opened m.entries f.name) ∙ h in
-    (ap (map first_of) (insert_entry-new bytes_eq m f.name f.state (none_there (lookup (bytes_eq f.name) m.entries) h)) ∙ map-append first_of m.entries ((f.name, f.state) ∷ [])
-        ∙ sym (ap (λ b. cond b (map first_of m.entries) (map first_of m.entries ++ f ∷ [])) away),
-     ap (λ b. cond b 0 (first_weight f)) away)
+    let away : is_opened (map first_of m.entries) f.name ≡ false = sym (found_opened m.entries f.name) ∙ h in (
+      ap (map first_of) (insert_entry-new bytes_eq m f.name f.state (none_there (lookup (bytes_eq f.name) m.entries) h)) ∙ map-append first_of m.entries ((f.name, f.state) ∷ [])
+          ∙ sym (ap (λ b. cond b (map first_of m.entries) (map first_of m.entries ++ f ∷ [])) away),
+      ap (λ b. cond b 0 (first_weight f)) away,
+    )
 
 sum_opened : (opening : List First) (f : Option First) → sum_by first_weight (opened f opening) ≡ sum_by first_weight opening + opened_weight f opening
 sum_opened opening None = omega arith

@@ -70,9 +70,9 @@ under start below [] name h k = k refl
 under start below (f ∷ opening) name h k =
     either_way (bytes_eq name f.name)
     (λ e. subst (λ n. state_of (written_over below (f ∷ opening)) n ≡ state_of start n) (sym (equal_bytes name f.name e))
-        (state_of-put (written_over below opening) f.name f.state ∙ h.0))
+    (state_of-put (written_over below opening) f.name f.state ∙ h.0))
     (λ e. put_cases (λ s. s ≡ state_of start name) (written_over below opening) f.name f.state name (λ same. absurd (other_bytes name f.name e same))
-        (under start below opening name h.1 (λ none. k (ap (λ b. is_some (cond b (Some f.state) (opening_of opening name))) e ∙ none))))
+    (under start below opening name h.1 (λ none. k (ap (λ b. is_some (cond b (Some f.state) (opening_of opening name))) e ∙ none))))
 
 pub opening_is_underneath : (log : Log) → OpeningIsUnderneath log
 opening_is_underneath log start h name =

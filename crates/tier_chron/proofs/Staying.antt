@@ -124,7 +124,7 @@ act_keeps_truth a start calls log f h may told =
     (λ l. TellsCall start (log.acts ++ a ∷ []) l (call_of calls l.call))
     (λ l both k. told_push start log.acts a l (call_of calls l.call) both.0 both.1 k) log.answers
     (all_both (IsPlaced (length log.acts)) (λ l. l.call ≡ a.call → is_fault l.answer ≡ true) (λ l. (l.place ≤ length log.acts) × (l.call ≡ a.call → is_fault l.answer ≡ true))
-        (λ l p ne. (omega (arith, p.done, p.there), ne)) log.answers h.ordered.placed may.free) told
+    (λ l p ne. (omega (arith, p.done, p.there), ne)) log.answers h.ordered.placed may.free) told
 
 -- ---- and with one more answer
 

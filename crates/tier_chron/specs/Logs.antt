@@ -53,7 +53,7 @@ abbrev pub coded_log : Coded Log
 coded_log =
     code_by (List First × (List Act × List Logged))
     (coded× (coded_list first.the_row.coded)
-        (coded× (coded_list act.the_row.coded) (coded_list logged.the_row.coded)))
+    (coded× (coded_list act.the_row.coded) (coded_list logged.the_row.coded)))
     (λ l. (l.opening, (l.acts, l.answers)))
     (λ p. record { opening = p.0; acts = p.1.0; answers = p.1.1 }) (λ _. refl)
 

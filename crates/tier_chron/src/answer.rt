@@ -22,7 +22,10 @@ pub enum AgentDid {
 pub enum Answer {
     /// The write vector was accepted, and the name has this version since; now, or earlier
     /// (`kept`).
-    Done { ver: u64, kept: bool },
+    Done {
+        ver: u64,
+        kept: bool,
+    },
     /// The sub-operation at this place, counted from 0, was refused, at this version; now, or
     /// earlier (`kept`).
     Refused {
@@ -32,33 +35,59 @@ pub enum Answer {
         kept: bool,
     },
     /// What each sub-operation of a read vector tells, and the name's version.
-    Values { ver: u64, outs: OutList },
+    Values {
+        ver: u64,
+        outs: OutList,
+    },
     /// A later request of the client acted on the name, with this number.
-    Stale { kept: u64 },
+    Stale {
+        kept: u64,
+    },
     /// A number has come to its end, 2^62: the requests of the name, the operations, the calls, the
     /// epochs.
-    Worn { limit: u64 },
+    Worn {
+        limit: u64,
+    },
     /// Unfinished work of this kind and number stands on the name.
-    Blocked { kind: Kind, opid: u64 },
+    Blocked {
+        kind: Kind,
+        opid: u64,
+    },
     /// The cache is full, by so many millionths of its target.
-    Full { micro: u64 },
+    Full {
+        micro: u64,
+    },
     /// The cache was started again while the call went on: it began in the epoch `was`.
-    Restarted { was: u64, now: u64 },
+    Restarted {
+        was: u64,
+        now: u64,
+    },
     /// The state of this `seq` was written back to the base, and the record is clean or gone.
-    Flushed { seq: u64 },
+    Flushed {
+        seq: u64,
+    },
     /// The record is clean already.
     Clean,
     /// The cache has no record of the name.
     Absent,
     /// The state of `seq` `flushed` was written back, but the record had `now` by then and is still
     /// dirty.
-    Again { flushed: u64, now: u64 },
+    Again {
+        flushed: u64,
+        now: u64,
+    },
     /// The clean record of this `seq` was taken out of the cache.
-    Evicted { seq: u64 },
+    Evicted {
+        seq: u64,
+    },
     /// The record is dirty, with this `seq`, and stays.
-    Dirty { seq: u64 },
+    Dirty {
+        seq: u64,
+    },
     /// A flush of this number began and waits for its finish.
-    Begun { opid: u64 },
+    Begun {
+        opid: u64,
+    },
     /// No begun flush of the name waits.
     NoBegun,
     /// The cache has no record left.
@@ -71,7 +100,9 @@ pub enum Answer {
         opid: u64,
     },
     /// The cache is in this mode, and only a proxying one is drained.
-    NotProxy { mode: Mode },
+    NotProxy {
+        mode: Mode,
+    },
     /// What a turn of the agent did.
     Agent(AgentDid),
     /// A pool has no room: so much is used, so much more was needed, and that is the limit.
@@ -82,13 +113,24 @@ pub enum Answer {
         limit: u64,
     },
     /// The history has so many entries and bytes, and takes no further call.
-    HistoryFull { entries: u64, bytes: u64 },
+    HistoryFull {
+        entries: u64,
+        bytes: u64,
+    },
     /// A pool's disk failed.
-    DiskFault { pool: Pool },
+    DiskFault {
+        pool: Pool,
+    },
     /// What stands at this offset of a pool's disk is no journal.
-    Damaged { pool: Pool, at: u64 },
+    Damaged {
+        pool: Pool,
+        at: u64,
+    },
     /// A pool's value of this name spells no state.
-    BadRecord { pool: Pool, name: Name },
+    BadRecord {
+        pool: Pool,
+        name: Name,
+    },
     /// There was not enough memory.
     NoMemory,
 }

@@ -1,6 +1,5 @@
 //! The history of a group. It only grows. Memory for entries is taken before the step that pushes
-//! them, so that a
-//! push cannot fail; what the entries weigh is kept as a running sum.
+//! them, so that a push cannot fail; what the entries weigh is kept as a running sum.
 ghost use Rattle.std.specs.Prelude.{◌≡◌, ◌≤◌, ◌+◌, ◌-◌, Some, map, max, OnOk, OnErr};
 ghost use Rattle.std.specs.Option.{option_copied};
 ghost use Rattle.indexmap.specs.IndexMap.{spare};
@@ -46,7 +45,7 @@ impl Model for History {
     } };
 
     ghost invariant = { λ h. (h.bytes ≡ cut (bytes_of
-            (log_of h.opening.entries h.acts.items h.answers.items)))
+        (log_of h.opening.entries h.acts.items h.answers.items)))
         × (h.room ≤ spare h.opening) × (vec_len h.acts + h.room ≤ vec_capacity h.acts)
         × (vec_len h.answers + h.room ≤ vec_capacity h.answers) };
 }
@@ -85,8 +84,10 @@ impl History {
     /// It takes no memory.
     pub fn push_act(&mut self, first: Option<First>, act: Act)
         requires { 1 ≤ self.old.spare }
-        ensures { self.new ≡ record { log = acted_log first act self.old.log;
-            spare = self.old.spare - 1 } }
+        ensures { self.new ≡ record {
+          log = acted_log first act self.old.log;
+          spare = self.old.spare - 1;
+        } }
     {
         self.room -= 1;
         let weight = open(&mut self.opening, first).saturating_add(act_weight(&act));
@@ -97,8 +98,10 @@ impl History {
     /// Pushes an answer. It takes no memory.
     pub fn push_answer(&mut self, logged: Logged)
         requires { 1 ≤ self.old.spare }
-        ensures { self.new ≡ record { log = answered_log logged self.old.log;
-            spare = self.old.spare - 1 } }
+        ensures { self.new ≡ record {
+          log = answered_log logged self.old.log;
+          spare = self.old.spare - 1;
+        } }
     {
         self.room -= 1;
         self.bytes = self.bytes.saturating_add(logged_weight(&logged));
