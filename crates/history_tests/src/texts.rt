@@ -1,7 +1,7 @@
 //! Texts that were written by hand.
 use obj_model::{
-    Bytes, Items, Kept, Kind, Mode, Name, NameState, NoMemory, Obj, Out, Pair, PairMap, Path, Pool,
-    Reply, Req, SubOp, Vector, Why,
+    Bytes, Items, Kept, Kind, Mode, Name, NameState, Obj, Out, Pair, PairMap, Path, Pool, Reply,
+    Req, SubOp, Vector, Why,
 };
 use report_text::{
     Counts, Text, Told, answer_text, put_act, put_answer, put_base_row, put_cache_row, put_summary,
@@ -21,9 +21,9 @@ fn bytes(alloc: Global, bytes: &[u8]) -> Result<Bytes, Fail> {
 }
 
 // Puts an answer's text, at place 7, and a mark.
-fn add(text: &mut Text, answer: &Answer) -> Result<(), NoMemory> {
-    put_answer(text, answer, 7)?;
-    text.push("|")
+fn add(rt: &impl Abort, text: &mut Text, answer: &Answer) {
+    put_answer(text, answer, 7).expect(rt, "memory");
+    text.push("|").expect(rt, "memory");
 }
 
 fn refused(at: u8, why: Why, ver: u64, kept: bool) -> Answer {
@@ -35,72 +35,76 @@ fn blocked(kind: Kind, opid: u64) -> Answer {
 }
 
 #[test]
-fn answers_to_clients(rt: HostRuntime) -> Result<(), Fail> {
+fn answers_to_clients(rt: HostRuntime) {
     let mut text = Text::new(rt.alloc());
     add(
+        &rt,
         &mut text,
         &Answer::Done {
             ver: 3,
             kept: false,
         },
-    )?;
-    add(&mut text, &Answer::Done { ver: 3, kept: true })?;
-    add(&mut text, &refused(0, Why::Exists, 1, false))?;
-    add(&mut text, &refused(1, Why::NoEnt, 0, true))?;
-    add(&mut text, &refused(2, Why::NoData, 9, false))?;
-    add(&mut text, &refused(3, Why::Canceled, 9, false))?;
-    add(&mut text, &refused(4, Why::Range, 9, false))?;
-    add(&mut text, &refused(15, Why::Overflow, 9, false))?;
+    );
+    add(&rt, &mut text, &Answer::Done { ver: 3, kept: true });
+    add(&rt, &mut text, &refused(0, Why::Exists, 1, false));
+    add(&rt, &mut text, &refused(1, Why::NoEnt, 0, true));
+    add(&rt, &mut text, &refused(2, Why::NoData, 9, false));
+    add(&rt, &mut text, &refused(3, Why::Canceled, 9, false));
+    add(&rt, &mut text, &refused(4, Why::Range, 9, false));
+    add(&rt, &mut text, &refused(15, Why::Overflow, 9, false));
     let why = Why::TooBig {
         limit: 4096,
         asked: 4097,
     };
-    add(&mut text, &refused(0, why, 10, true))?;
-    add(&mut text, &Answer::Stale { kept: 5 })?;
+    add(&rt, &mut text, &refused(0, why, 10, true));
+    add(&rt, &mut text, &Answer::Stale { kept: 5 });
     add(
+        &rt,
         &mut text,
         &Answer::Worn {
             limit: 4_611_686_018_427_387_904,
         },
-    )?;
-    add(&mut text, &blocked(Kind::Promote, 1))?;
-    add(&mut text, &blocked(Kind::Write, 2))?;
-    add(&mut text, &blocked(Kind::Read, 3))?;
-    add(&mut text, &blocked(Kind::Flush, 4))?;
-    add(&mut text, &Answer::Full { micro: 1_500_000 })?;
-    add(&mut text, &Answer::Restarted { was: 1, now: 2 })?;
+    );
+    add(&rt, &mut text, &blocked(Kind::Promote, 1));
+    add(&rt, &mut text, &blocked(Kind::Write, 2));
+    add(&rt, &mut text, &blocked(Kind::Read, 3));
+    add(&rt, &mut text, &blocked(Kind::Flush, 4));
+    add(&rt, &mut text, &Answer::Full { micro: 1_500_000 });
+    add(&rt, &mut text, &Answer::Restarted { was: 1, now: 2 });
     let want =
         "done v3 @7|done v3 @7 kept|refused 0 exists v1 @7|refused 1 noent v0 @7 kept|refused 2 nodata v9 @7|refused 3 canceled v9 @7|refused 4 range v9 @7|refused 15 overflow v9 @7|refused 0 toobig 4096 4097 v10 @7 kept|stale 5|worn 4611686018427387904|blocked promote 1|blocked write 2|blocked read 3|blocked flush 4|full 1500000|restarted 1 2|";
     assert!(rt; text.as_slice() == want.as_bytes());
-    Ok(())
 }
 
 #[test]
-fn answers_to_others(rt: HostRuntime) -> Result<(), Fail> {
+fn answers_to_others(rt: HostRuntime) {
     let mut text = Text::new(rt.alloc());
-    add(&mut text, &Answer::Flushed { seq: 2 })?;
-    add(&mut text, &Answer::Clean)?;
-    add(&mut text, &Answer::Absent)?;
-    add(&mut text, &Answer::Again { flushed: 1, now: 2 })?;
-    add(&mut text, &Answer::Evicted { seq: 4 })?;
-    add(&mut text, &Answer::Dirty { seq: 5 })?;
-    add(&mut text, &Answer::Begun { opid: 6 })?;
-    add(&mut text, &Answer::NoBegun)?;
-    add(&mut text, &Answer::Drained)?;
+    add(&rt, &mut text, &Answer::Flushed { seq: 2 });
+    add(&rt, &mut text, &Answer::Clean);
+    add(&rt, &mut text, &Answer::Absent);
+    add(&rt, &mut text, &Answer::Again { flushed: 1, now: 2 });
+    add(&rt, &mut text, &Answer::Evicted { seq: 4 });
+    add(&rt, &mut text, &Answer::Dirty { seq: 5 });
+    add(&rt, &mut text, &Answer::Begun { opid: 6 });
+    add(&rt, &mut text, &Answer::NoBegun);
+    add(&rt, &mut text, &Answer::Drained);
     add(
+        &rt,
         &mut text,
         &Answer::NotProxy {
             mode: Mode::Writeback,
         },
-    )?;
+    );
     add(
+        &rt,
         &mut text,
         &Answer::NotProxy {
             mode: Mode::Readproxy,
         },
-    )?;
-    add(&mut text, &Answer::NotProxy { mode: Mode::Proxy })?;
+    );
+    add(&rt, &mut text, &Answer::NotProxy { mode: Mode::Proxy });
     add(
+        &rt,
         &mut text,
         &Answer::NoSpace {
             pool: Pool::Base,
@@ -108,27 +112,70 @@ fn answers_to_others(rt: HostRuntime) -> Result<(), Fail> {
             need: 24,
             limit: 64,
         },
-    )?;
+    );
     add(
+        &rt,
         &mut text,
         &Answer::HistoryFull {
             entries: 1_048_576,
             bytes: 70,
         },
-    )?;
-    add(&mut text, &Answer::DiskFault { pool: Pool::Base })?;
-    add(&mut text, &Answer::DiskFault { pool: Pool::Cache })?;
+    );
+    add(&rt, &mut text, &Answer::DiskFault { pool: Pool::Base });
+    add(&rt, &mut text, &Answer::DiskFault { pool: Pool::Cache });
     add(
+        &rt,
         &mut text,
         &Answer::Damaged {
             pool: Pool::Cache,
             at: 22,
         },
-    )?;
-    add(&mut text, &Answer::NoMemory)?;
+    );
+    add(&rt, &mut text, &Answer::NoMemory);
     let want =
         "flushed 2|clean|absent|again 1 2|evicted 4|dirty 5|begun 6|nothing|drained|notproxy writeback|notproxy readproxy|notproxy proxy|nospace base 47 24 64|historyfull 1048576 70|fault base|fault cache|damaged cache 22|nomemory|";
     assert!(rt; text.as_slice() == want.as_bytes());
+}
+
+// Puts what a drain left, with the name `a`.
+fn add_left(rt: &impl Abort, alloc: Global, text: &mut Text) -> Result<(), Fail> {
+    let name = name(rt, alloc, b"a")?;
+    let kind = Kind::Flush;
+    add(
+        rt,
+        text,
+        &Answer::Left {
+            count: 2,
+            name,
+            kind,
+            opid: 3,
+        },
+    );
+    Ok(())
+}
+
+// Puts a name whose value spells nothing.
+fn add_bad(rt: &impl Abort, alloc: Global, text: &mut Text) -> Result<(), Fail> {
+    let name = name(rt, alloc, b"n~")?;
+    let pool = Pool::Cache;
+    add(rt, text, &Answer::BadRecord { pool, name });
+    Ok(())
+}
+
+// Puts what a turn of the agent did to the name `a`.
+fn add_turn(rt: &impl Abort, alloc: Global, text: &mut Text, turn: u8) -> Result<(), Fail> {
+    let name = name(rt, alloc, b"a")?;
+    let did = match turn {
+        0 => AgentDid::Evicted { name, seq: 1 },
+        1 => AgentDid::Flushed { name, seq: 2 },
+        2 => AgentDid::Again {
+            name,
+            flushed: 3,
+            now: 4,
+        },
+        _ => AgentDid::Nothing,
+    };
+    add(rt, text, &Answer::Agent(did));
     Ok(())
 }
 
@@ -136,37 +183,14 @@ fn answers_to_others(rt: HostRuntime) -> Result<(), Fail> {
 fn answers_with_names(rt: HostRuntime) -> Result<(), Fail> {
     let alloc = rt.alloc();
     let mut text = Text::new(alloc);
-    let left = Answer::Left {
-        count: 2,
-        name: name(&rt, alloc, b"a")?,
-        kind: Kind::Flush,
-        opid: 3,
-    };
-    add(&mut text, &left)?;
-    let bad = Answer::BadRecord {
-        pool: Pool::Cache,
-        name: name(&rt, alloc, b"n~")?,
-    };
-    add(&mut text, &bad)?;
-    let evicted = AgentDid::Evicted {
-        name: name(&rt, alloc, b"a")?,
-        seq: 1,
-    };
-    add(&mut text, &Answer::Agent(evicted))?;
-    let flushed = AgentDid::Flushed {
-        name: name(&rt, alloc, b"b")?,
-        seq: 2,
-    };
-    add(&mut text, &Answer::Agent(flushed))?;
-    let again = AgentDid::Again {
-        name: name(&rt, alloc, b"c")?,
-        flushed: 3,
-        now: 4,
-    };
-    add(&mut text, &Answer::Agent(again))?;
-    add(&mut text, &Answer::Agent(AgentDid::Nothing))?;
+    add_left(&rt, alloc, &mut text)?;
+    add_bad(&rt, alloc, &mut text)?;
+    add_turn(&rt, alloc, &mut text, 0)?;
+    add_turn(&rt, alloc, &mut text, 1)?;
+    add_turn(&rt, alloc, &mut text, 2)?;
+    add_turn(&rt, alloc, &mut text, 3)?;
     let want =
-        "left 2 a flush 3|badrecord cache n~|agent evicted a 1|agent flushed b 2|agent again c 3 4|agent nothing|";
+        "left 2 a flush 3|badrecord cache n~|agent evicted a 1|agent flushed a 2|agent again a 3 4|agent nothing|";
     assert!(rt; text.as_slice() == want.as_bytes());
     Ok(())
 }
@@ -195,7 +219,7 @@ fn values_of_every_kind(rt: HostRuntime) -> Result<(), Fail> {
     })?;
     outs.push(Out::Pairs(pairs))?;
     let mut text = Text::new(alloc);
-    add(&mut text, &Answer::Values { ver: 2, outs })?;
+    add(&rt, &mut text, &Answer::Values { ver: 2, outs });
     let want = "values v2 @7 ok ; 6162ff ; - ; 1048576 ; 0 ; 2 k1 k2 ; 2 p 76 q -|";
     assert!(rt; text.as_slice() == want.as_bytes());
     Ok(())
@@ -210,32 +234,51 @@ fn told<'a>(answer: &'a Answer, path: Option<Path>) -> Told<'a> {
     }
 }
 
+// Puts a line.
+fn line(rt: &impl Abort, text: &mut Text, number: u32, told: &[Told<'_>], paths: bool) {
+    answer_text(text, number, told, paths).expect(rt, "memory");
+}
+
 #[test]
-fn lines_with_paths(rt: HostRuntime) -> Result<(), Fail> {
+fn lines_with_paths(rt: HostRuntime) {
     let mut text = Text::new(rt.alloc());
     let done = Answer::Done {
         ver: 3,
         kept: false,
     };
     let clean = Answer::Clean;
-    answer_text(&mut text, 1, &[told(&done, Some(Path::Hit))], true)?;
-    answer_text(&mut text, 2, &[told(&done, Some(Path::Promote))], true)?;
-    answer_text(&mut text, 3, &[told(&done, Some(Path::ProxyRead))], true)?;
-    answer_text(&mut text, 40, &[told(&done, Some(Path::ProxyWrite))], true)?;
-    answer_text(&mut text, 5, &[told(&done, Some(Path::Hit))], false)?;
-    answer_text(
+    line(&rt, &mut text, 1, &[told(&done, Some(Path::Hit))], true);
+    line(&rt, &mut text, 2, &[told(&done, Some(Path::Promote))], true);
+    line(
+        &rt,
+        &mut text,
+        3,
+        &[told(&done, Some(Path::ProxyRead))],
+        true,
+    );
+    line(
+        &rt,
+        &mut text,
+        40,
+        &[told(&done, Some(Path::ProxyWrite))],
+        true,
+    );
+    line(&rt, &mut text, 5, &[told(&done, Some(Path::Hit))], false);
+    line(
+        &rt,
         &mut text,
         6,
         &[told(&clean, None), told(&done, Some(Path::Hit))],
         true,
-    )?;
+    );
     let want =
         "1 done v3 @7 hit\n2 done v3 @7 promote\n3 done v3 @7 proxy-read\n40 done v3 @7 proxy-write\n5 done v3 @7\n6 clean ; done v3 @7 hit\n";
     assert!(rt; text.as_slice() == want.as_bytes());
     text.clear();
-    answer_text(&mut text, 1, &[Told::Mode { mode: Mode::Proxy }], true)?;
-    answer_text(&mut text, 2, &[Told::Time { moment: 60 }], true)?;
-    answer_text(
+    line(&rt, &mut text, 1, &[Told::Mode { mode: Mode::Proxy }], true);
+    line(&rt, &mut text, 2, &[Told::Time { moment: 60 }], true);
+    line(
+        &rt,
         &mut text,
         3,
         &[
@@ -243,12 +286,11 @@ fn lines_with_paths(rt: HostRuntime) -> Result<(), Fail> {
             Told::CacheStopped { epoch: 9 },
         ],
         true,
-    )?;
-    answer_text(&mut text, 4, &[Told::BaseStopped], false)?;
+    );
+    line(&rt, &mut text, 4, &[Told::BaseStopped], false);
     let want =
         "1 mode proxy\n2 time 60\n3 stopped cache epoch 2 ; stopped cache epoch 9\n4 stopped base\n";
     assert!(rt; text.as_slice() == want.as_bytes());
-    Ok(())
 }
 
 // An act of client 12 on the name `a`.
@@ -346,7 +388,7 @@ fn note(rt: &impl Abort, counts: &mut Counts, answer: &Answer) {
 }
 
 #[test]
-fn summary_of_a_run(rt: HostRuntime) -> Result<(), Fail> {
+fn summary_of_a_run(rt: HostRuntime) {
     let mut counts = Counts::new();
     note(
         &rt,
@@ -385,8 +427,7 @@ fn summary_of_a_run(rt: HostRuntime) -> Result<(), Fail> {
     };
     assert!(rt; counts == want);
     let mut text = Text::new(rt.alloc());
-    put_summary(&mut text, &want)?;
-    let line = "lines 11 done 1 refused 1 values 1 kept 3 stale 1 blocked 1 full 1 other 2\n";
-    assert!(rt; text.as_slice() == line.as_bytes());
-    Ok(())
+    put_summary(&mut text, &want).expect(&rt, "memory");
+    let told = "lines 11 done 1 refused 1 values 1 kept 3 stale 1 blocked 1 full 1 other 2\n";
+    assert!(rt; text.as_slice() == told.as_bytes());
 }

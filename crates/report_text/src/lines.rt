@@ -8,9 +8,8 @@ use crate::{Text, Told};
 use obj_model::{NoMemory, Path};
 use tier_chron::Act;
 
-/// Puts the text of a line behind a text: its number, what it is told of each group, joined with
-/// ` ; `, and a newline.
-/// With `paths` each answer that has a path is followed by it.
+/// Puts the text of a line behind a text: its number, what it is told of each group, joined with `
+/// ; `, and a newline. With `paths` each answer that has a path is followed by it.
 pub fn answer_text(
     text: &mut Text,
     number: u32,

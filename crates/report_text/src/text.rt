@@ -1,6 +1,5 @@
 //! Texts that are made piece by piece in one buffer. The promise: each piece comes behind the
-//! others, spelled as the
-//! definitions say.
+//! others, spelled as the definitions say.
 ghost use Rattle.std.specs.Prelude.{◌≡◌, ◌++◌, [], OnOk, decimal};
 ghost use Rattle.script_lang.specs.Spelling.{bytes_word};
 
@@ -10,8 +9,7 @@ use std::alloc::Global;
 use std::marker::Model;
 
 /// A text, seen as the list of its bytes. Its room is kept when it is cleared, so that one text
-/// serves line after line.
-/// After a call that lacked memory it is of no use until it is cleared.
+/// serves line after line. After a call that lacked memory it is of no use until it is cleared.
 #[derive(Drop)]
 pub struct Text {
     bytes: Vec<u8>,

@@ -118,8 +118,8 @@ abbrev pub IdsActOnce : Log → Type 0
 IdsActOnce log = (start : Store) → IsLegal start log → HaveOwnIds log.acts
 
 -- what was answered before a call begins has a place that the call's place does not fall behind: a
--- call that begins now begins at the
--- present number of acts, and no answer so far has a greater place
+-- call that begins now begins at the present number of acts, and no answer so far has a greater
+-- place
 abbrev pub SeenBefore : Log → Type 0
 SeenBefore log =
     (begin : ℕ) → IsOrdered log → begin ≡ length log.acts

@@ -54,8 +54,7 @@ pub record IsOrdered (log : Log) : Type 0 where
   pub in_order : AreInOrder log.answers
 
 -- a history is legal from this store on: it is ordered, its acts acted one after another with the
--- replies that they have, and its
--- openings are the states that their names had at first
+-- replies that they have, and its openings are the states that their names had at first
 pub record IsLegal (start : Store) (log : Log) : Type 0 where
   pub ordered : IsOrdered log
   pub fresh : AreFresh start log.acts

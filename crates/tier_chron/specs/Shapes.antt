@@ -129,8 +129,8 @@ abbrev pub own_act : Logged → Req → Reply → Act
 own_act l req given = record { call = l.call; line = l.line; req = req; reply = given }
 
 -- Beside an answer to a write request: a reply that is not kept is the call's act, and the answer's
--- place is the act's number, also where
--- other acts came before the answer; a call that was turned away has no act.
+-- place is the act's number, also where other acts came before the answer; a call that was turned
+-- away has no act.
 abbrev pub StandsBeside : List Act → Req → Logged → Answer → Type 0
 StandsBeside acts req l (answer.Done ver false) =
     act_at acts l.place ≡ Some (own_act l req (reply.Done ver))

@@ -15,8 +15,7 @@ pub enum Asked {
         vector: Vector,
     },
     /// To write a name's record back to the base. A blocking flush keeps writers out; one with
-    /// `begin_only`
-    /// is answered when it has begun, and waits for its finish.
+    /// `begin_only` is answered when it has begun, and waits for its finish.
     Flush {
         name: Name,
         blocking: bool,

@@ -1,6 +1,5 @@
 //! The history of a group. It only grows. Memory for entries is taken before the step that pushes
-//! them, so that a
-//! push cannot fail; what the entries weigh is kept as a running sum.
+//! them, so that a push cannot fail; what the entries weigh is kept as a running sum.
 ghost use Rattle.std.specs.Prelude.{◌≡◌, ◌≤◌, ◌+◌, ◌-◌, Some, map, max, OnOk, OnErr};
 ghost use Rattle.std.specs.Option.{option_copied};
 ghost use Rattle.indexmap.specs.IndexMap.{spare};

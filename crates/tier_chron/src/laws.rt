@@ -31,8 +31,7 @@ pub fn an_act_keeps_it_legal(_act: &Act)
 {}
 
 /// A history keeps its shape with one act more of a call that asked for it, has none yet and was
-/// not answered, but by
-/// a fault.
+/// not answered, but by a fault.
 pub fn an_act_keeps_its_shape(_act: &Act)
     ensures { ActKeepsShape _act.now }
 {}
@@ -62,8 +61,7 @@ pub fn ids_act_once(_history: &History)
 {}
 
 /// A call that begins now begins at no lower place than that of any answer logged so far, so its
-/// place holds what its
-/// caller had seen.
+/// place holds what its caller had seen.
 #[tactic(auto, using(crate::proofs::Growing::seen_before))]
 pub fn what_was_seen_is_there(_history: &History)
     ensures { SeenBefore _history.now.log }
