@@ -9,7 +9,7 @@ use Rattle.copy_chunk.specs.declared.chunk.Chunk.{Chunk}
 use Rattle.copy_chunk.specs.declared.chunk.Cursor.{Cursor}
 use Rattle.copy_chunk.specs.declared.chunk.Cursor.TheVariants.{Head, Body, Attrs, Omap, Seen}
 use Rattle.copy_chunk.specs.Chunks.{Piece, pieces_of, first_place, linked, chunks_of, is_key, is_place, chunk_at}
-use Rattle.copy_chunk.specs.Gathers.{made, wanted_from, wanted, joined, IsFront}
+use Rattle.copy_chunk.specs.Gathers.{made, wanted_from, wanted, joined, IsFront, IsChainFrom, IsChain, GoesOn}
 use Rattle.copy_chunk.proofs.Places.{NoneAt, Apart, pieces_apart}
 use Rattle.copy_chunk.proofs.Joins.{chunks_make}
 
@@ -162,17 +162,11 @@ pub chunk_found : (s : NameState) (cs rest : List Chunk) (c : Chunk) → chunks_
 unfolding chunks_of chunk_at
 chunk_found s cs rest c whole = ap (find (λ d. is_place c.at d.at)) whole ∙ found_apart None (pieces_of s) cs rest c (pieces_apart s) whole
 
--- behind the first chunks of a state the wanted place is one of the state, and the chunk there goes on
-pub record GoesOn (s : NameState) (cs : List Chunk) (at : Cursor) : Type 0 where
-  pub chunk : Chunk
-  pub there : chunk_at (chunks_of s) at ≡ Some chunk
-  pub place : chunk.at ≡ at
-  pub front : IsFront (cs ++ chunk ∷ []) (chunks_of s)
-
 first_wanted : (rest : List Chunk) (at : Cursor) → first_at None rest ≡ Some at → (c : Chunk) × (others : List Chunk) × (rest ≡ c ∷ others) × (c.at ≡ at)
 first_wanted [] at e = absurd cc
 first_wanted (c ∷ cs) at e = (c, cs, refl, some_is c.at at e)
 
+-- behind the first chunks of a state the wanted place is one of the state, and the chunk there goes on
 pub front_goes_on : (cs : List Chunk) (s : NameState) (at : Cursor) → IsFront cs (chunks_of s) → wanted cs ≡ Some at → GoesOn s cs at
 front_goes_on cs s at front e =
     let f = first_wanted front.behind at (sym (wanted_front s cs front.behind front.whole) ∙ e) in
@@ -189,3 +183,40 @@ pub front_more : (cs : List Chunk) (s : NameState) (at : Cursor) (c : Chunk) →
 front_more cs s at c front e there =
     let g = front_goes_on cs s at front e in
     subst (λ (d : Chunk). IsFront (cs ++ d ∷ []) (chunks_of s)) (some_is g.chunk c (sym g.there ∙ there)) g.front
+
+wanted_push : (at : Option Cursor) (cs : List Chunk) (c : Chunk) → wanted_from at (cs ++ c ∷ []) ≡ c.next
+wanted_push at [] c = refl
+wanted_push at (d ∷ cs) c = wanted_push d.next cs c
+
+-- behind a chunk the place that it names is wanted
+pub wanted_more : (cs : List Chunk) (c : Chunk) → wanted (cs ++ c ∷ []) ≡ c.next
+unfolding wanted
+wanted_more cs c = wanted_push (Some Head) cs c
+
+chain_push : (at : Option Cursor) (cs : List Chunk) (c : Chunk) → IsChainFrom at cs → wanted_from at cs ≡ Some c.at → IsChainFrom at (cs ++ c ∷ [])
+chain_push at [] c h e = (e, tt)
+chain_push at (d ∷ cs) c h e = (h.0, chain_push d.next cs c h.1 e)
+
+-- a chain and the chunk that is wanted behind it are a chain
+pub chain_more : (cs : List Chunk) (c : Chunk) → IsChain cs → wanted cs ≡ Some c.at → IsChain (cs ++ c ∷ [])
+unfolding IsChain wanted
+chain_more cs c h e = chain_push (Some Head) cs c h e
+
+-- each is a chunk of the state
+abbrev pub AreOf : NameState → List Chunk → Type 0
+AreOf s cs = AllByRecursion (λ (c : Chunk). chunk_at (chunks_of s) c.at ≡ Some c) cs
+
+chain_goes_on : (s : NameState) (done cs : List Chunk) → IsFront done (chunks_of s) → IsChainFrom (wanted done) cs → AreOf s cs → IsFront (done ++ cs) (chunks_of s)
+chain_goes_on s done [] front chain all = subst (λ (l : List Chunk). IsFront l (chunks_of s)) (sym (append-nil done)) front
+chain_goes_on s done (c ∷ cs) front chain all =
+    subst (λ (l : List Chunk). IsFront l (chunks_of s)) (append_assoc done (c ∷ []) cs)
+    (chain_goes_on s (done ++ c ∷ []) cs (front_more done s c.at c front chain.0 all.0) (subst (λ (at : Option Cursor). IsChainFrom at cs) (sym (wanted_more done c)) chain.1) all.1)
+
+wanted_first : wanted [] ≡ Some Head
+unfolding wanted
+wanted_first = refl
+
+-- a chain of chunks of a state is its first chunks
+pub chain_is_front : (s : NameState) (cs : List Chunk) → IsChain cs → AreOf s cs → IsFront cs (chunks_of s)
+unfolding IsChain
+chain_is_front s cs chain all = chain_goes_on s [] cs (front_nothing (chunks_of s)) (subst (λ (at : Option Cursor). IsChainFrom at cs) (sym wanted_first) chain) all
