@@ -5,8 +5,10 @@
 #![tactic(auto)]
 
 mod chunk;
+mod draft;
 mod gather;
 mod laws;
 
 pub use chunk::{Chunk, Cursor, Part};
 pub use gather::{Added, Gather};
+pub use laws::{chains_are_fronts, chunks_join, fronts_go_on, fronts_join};
