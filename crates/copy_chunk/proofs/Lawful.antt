@@ -1,5 +1,5 @@
 -- A lawful state stays lawful with a part that fits.
-use Rattle.std.proofs.Common.{◌≡◌, ◌≤◌, ◌<◌, ◌+◌, ◌^◌, ℕ, Bool, true, false, ◌&&◌, List, [], ◌∷◌, ◌++◌, map, length, Option, Some, None, refl, sym, ap, subst, ◌∙◌, arith, length-append}
+use Rattle.std.proofs.Common.{◌≡◌, ◌≤◌, ◌<◌, ◌+◌, ◌^◌, ℕ, suc, Bool, true, false, ◌&&◌, List, [], ◌∷◌, ◌++◌, map, length, Option, Some, None, refl, sym, ap, subst, ◌∙◌, arith, length-append}
 use Rattle.std.proofs.lemmas.Bool.{leb-true, ltb-true}
 use Rattle.std.specs.Prelude.{nat_le, nat_lt}
 use Rattle.std.specs.List.{AllByRecursion, All}
@@ -47,7 +47,7 @@ short_append (e ∷ es) fs h g = (h.0, short_append es fs h.1 g)
 
 length_pairs : (ps : List Pair) → length (map entry_of ps) ≡ length ps
 length_pairs [] = refl
-length_pairs (p ∷ ps) = ap (λ n. n + 1) (length_pairs ps)
+length_pairs (p ∷ ps) = ap suc (length_pairs ps)
 
 -- a table with pairs that it can take
 pub table_stays : (most : ℕ) (t : Table) (ps : List Pair) → IsTable most t → table_fits most (fin.entries t) ps ≡ true → IsTable most (fin.from_entries (entries_with t ps))
@@ -125,7 +125,7 @@ head_object false = tt
 
 -- a state with the object changed by one that stays lawful
 with_lawful : (s : NameState) (o : Obj) → IsState s → IsObj o → IsState (record s { obj = Some o })
-with_lawful s o h g = record { counted = h.counted; object = g; each_kept = h.each_kept; rising = h.rising }
+with_lawful s o h g = record { counted = record { accepted = h.counted.accepted; acted = h.counted.acted }; object = g; each_kept = h.each_kept; rising = h.rising }
 
 body_lawful : (s : NameState) (off : ℕ) (obj : Option Obj) (bytes : List ℕ) → s.obj ≡ obj → IsState s → part_fits (record s { obj = obj }) (Body off) (part.Body bytes) ≡ true → IsState (with_part (record s { obj = obj }) (Body off) (part.Body bytes))
 body_lawful s off None bytes same h e = absurd cc
@@ -156,5 +156,5 @@ part_lawful s (Attrs key) (part.Pairs ps) h e = attrs_lawful s key s.obj ps refl
 part_lawful s (Omap key) (part.Pairs ps) h e = omap_lawful s key s.obj ps refl h e
 part_lawful s Seen (part.Seen ks) h e =
     let k = kepts_lawful 0 ks e in
-    record { counted = h.counted; object = h.object; each_kept = All-from_recursion IsKept ks k.0; rising = k.2 }
+    record { counted = record { accepted = h.counted.accepted; acted = h.counted.acted }; object = h.object; each_kept = All-from_recursion IsKept ks k.0; rising = k.2 }
 part_lawful s at p h e = absurd cc

@@ -12,20 +12,11 @@ ghost use Rattle.copy_chunk.specs.Steps.{IsRising, state_of, Puts, PutsTable, Pu
 
 use crate::{Cursor, Part};
 use obj_model::{
-    Bytes, Items, Kept, KeptList, NUMBER_LIMIT, Name, NameMap, NameState, NoMemory, Obj, Pair,
-    PairList, Reply,
+    ATTRS_LIMIT, BODY_LIMIT, Bytes, Items, Kept, KeptList, NUMBER_LIMIT, Name, NameMap, NameState, NoMemory, OMAP_LIMIT, Obj,
+    Pair, PairList, Reply, VALUE_LIMIT,
 };
 use std::alloc::Global;
 use std::collections::BTreeMap;
-
-// The most bytes of a body and of a value, and the most entries of the two tables.
-const BODY_LIMIT: usize = 1_048_576;
-
-const VALUE_LIMIT: usize = 4096;
-
-const ATTR_LIMIT: usize = 64;
-
-const OMAP_LIMIT: usize = 1024;
 
 const CLIENT_LIMIT: u16 = 256;
 
@@ -61,7 +52,7 @@ fn pairs_fit(last: Option<&Name>, pairs: &[Pair]) -> bool
 {
     let mut before = last;
     for pair in pairs {
-        if !goes_behind(before, &pair.key) || pair.value.as_slice().len() > VALUE_LIMIT {
+        if !goes_behind(before, &pair.key) || pair.value.as_slice().len() as u64 > VALUE_LIMIT {
             return false;
         }
         before = Some(&pair.key);
@@ -80,12 +71,12 @@ fn last_key(table: &Table) -> Option<&Name>
 }
 
 // Whether a table can take these pairs.
-fn table_fits(most: usize, table: &Table, pairs: &[Pair]) -> bool
+fn table_fits(most: u64, table: &Table, pairs: &[Pair]) -> bool
     ensures exact { result ≡ table_fits most table.now.entries pairs.now }
     ensures rising { IsOrdered name_cmp table.now }
 {
-    let count = table.len();
-    if pairs.is_empty() || count > most || pairs.len() > most - count {
+    let count = table.len() as u64;
+    if pairs.is_empty() || count > most || pairs.len() as u64 > most - count {
         return false;
     }
     pairs_fit(last_key(table), pairs)
@@ -150,7 +141,7 @@ fn put_pairs(table: &mut Table, pairs: Vec<Pair>) -> Result<(), NoMemory>
 }
 
 // The pairs of a part in a table of at most so many entries, where they fit.
-fn put_table(table: &mut Table, most: usize, pairs: PairList) -> Result<bool, NoMemory>
+fn put_table(table: &mut Table, most: u64, pairs: PairList) -> Result<bool, NoMemory>
     ensures put { IfOk result (λ done. PutsTable most pairs table.old.entries done table.new.entries) }
     ensures refused { OnErr result (table.new.entries ≡ table.old.entries) }
     ensures rising { IsOrdered name_cmp table.old }
@@ -167,8 +158,8 @@ fn put_body(body: &mut Vec<u8>, bytes: &[u8]) -> Result<bool, NoMemory>
     ensures put { IfOk result (λ done. PutsBody bytes.now body.old.items done body.new.items) }
     ensures refused { OnErr result (body.new.items ≡ body.old.items) }
 {
-    let count = body.len();
-    if bytes.is_empty() || count > BODY_LIMIT || bytes.len() > BODY_LIMIT - count {
+    let count = body.len() as u64;
+    if bytes.is_empty() || count > BODY_LIMIT || bytes.len() as u64 > BODY_LIMIT - count {
         return Ok(false);
     }
     body.extend_from_slice(bytes)?;
@@ -227,7 +218,7 @@ impl Draft {
         if !self.present {
             return Ok(false);
         }
-        put_table(&mut self.attrs, ATTR_LIMIT, pairs)
+        put_table(&mut self.attrs, ATTRS_LIMIT, pairs)
     }
 
     // Entries of the omap behind those that are there, where they fit. Without memory nothing changes.

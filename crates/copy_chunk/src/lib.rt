@@ -1,7 +1,7 @@
 //! The state of a name in chunks, as it goes from one pool to the other, and the gathering of them.
 //!
-//! A state has one list of chunks. `chunk_of` gives the chunk at a place of it, and none where the place is none of this
-//! state. A gather takes the chunks in their order and no other; when the last one is there it gives the state.
+//! A state has one list of chunks, which join to it. A gather takes the wanted chunk where it fits, in their order and
+//! no other; when the last one is there it gives the state that they join to, which is within all limits.
 #![tactic(auto)]
 
 mod chunk;
