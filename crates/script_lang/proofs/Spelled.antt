@@ -1,20 +1,21 @@
 -- A text reads as a line exactly where it is the line's spelling.
-use Rattle.std.proofs.Common.{◌≡◌, ℕ, ◌≤◌, ◌&&◌, nat_le, Bool, true, false, List, [], ◌∷◌, Some, None, if◌then◌else◌, refl, sym, ap, ◌∙◌, arith, bytes_eq, codes, decimal}
-use Rattle.std.specs.List.{join_with_byte}
+use Rattle.std.proofs.Common.{◌≡◌, ℕ, ◌≤◌, ◌&&◌, nat_le, not, Bool, true, false, List, [], ◌∷◌, Some, None, if◌then◌else◌, refl, sym, ap, ◌∙◌, arith, bytes_eq, codes, decimal}
+use Rattle.std.specs.List.{join_with_byte, list_any}
 use Rattle.std.specs.Cmp.Lexicographic.{bytes_decides}
 use Rattle.std.proofs.lemmas.Bool.{and_parts}
 use Rattle.std.proofs.lemmas.Bool.Decides.{nat_tests}
 use Rattle.std.proofs.lemmas.List.Elements.{recursion_from_All}
 use Rattle.obj_model.specs.Names.{name_fault}
+use Rattle.obj_model.specs.SubOps.{is_write}
 use Rattle.script_lang.specs.declared.line.Line.{Line}
 use Rattle.script_lang.specs.declared.line.Line.TheVariants.{Op, Get}
-use Rattle.script_lang.specs.Spelling.{IsClient, IsOp, IsLine, Says, line_words, vector_words, spelling, is_built_write, is_built_read}
+use Rattle.script_lang.specs.Spelling.{IsClient, IsOp, IsLine, Says, line_words, vector_words, spelling}
 use Rattle.script_lang.specs.Reading.{◌>>=◌, first_of, rest_of, number_at, client_at, client_of, name_at, name_of, vector_of, op_line, get_line, verb_line, words_of, line_of}
 use Rattle.script_lang.proofs.Options.{bind_some, only_if_some}
 use Rattle.script_lang.proofs.Joined.{IsWords, literal_is_word, words_of-joined, joined-words_of}
 use Rattle.script_lang.proofs.Numbers.{number_of-decimal, decimal_is_word}
-use Rattle.script_lang.proofs.Names.{name_of-sound, name_of-name, name_is_word}
-use Rattle.script_lang.proofs.Subops.{first_word, number_at-sound, vector_of-sound, vector_of-words, vector_is_words}
+use Rattle.script_lang.proofs.Names.{name_of-name, name_is_word}
+use Rattle.script_lang.proofs.Subops.{number_at-sound, name_at-sound, vector_of-sound, vector_of-words, vector_is_words}
 
 client_at-sound : (words : List (List ℕ)) (n : ℕ) → client_at words ≡ Some n → (words ≡ decimal n ∷ rest_of words) × IsClient n
 client_at-sound words n h =
@@ -33,13 +34,6 @@ client_of-lawful n h =
     let test : (nat_le 1 n && nat_le n 256) ≡ true = grind (arith, nat_tests) in
     rw test refl
 
-name_at-sound : (words : List (List ℕ)) (name : List ℕ) → name_at words ≡ Some name
-    → (words ≡ name ∷ rest_of words) × (name_fault name ≡ None)
-name_at-sound words name h =
-    let b = bind_some (first_of words) name_of name h in
-    let s = name_of-sound b.0 name b.2 in
-    (first_word words b.0 b.1 ∙ ap (λ (x : List ℕ). x ∷ rest_of words) s.0, s.1)
-
 -- words spell a lawful line
 pub record AreLine (words : List (List ℕ)) (line : Line) : Type 0 where
   pub spelled : words ≡ line_words line
@@ -51,7 +45,7 @@ op_line-sound words line h =
     let b = bind_some (number_at (rest_of words)) _ line a.2 in
     let d = bind_some (name_at (rest_of (rest_of words))) _ line b.2 in
     let v = bind_some (vector_of (rest_of (rest_of (rest_of words)))) _ line d.2 in
-    let built = only_if_some (is_built_write v.0) _ line v.2 in
+    let built = only_if_some (list_any is_write v.0) _ line v.2 in
     let client = client_at-sound words a.0 a.1 in
     let tid = number_at-sound (rest_of words) b.0 b.1 in
     let name = name_at-sound (rest_of (rest_of words)) d.0 d.1 in
@@ -74,12 +68,16 @@ op_line-sound words line h =
       );
     })
 
+not_true : (b : Bool) → not b ≡ true → b ≡ false
+not_true false h = refl
+not_true true h = cc h
+
 get_line-sound : (words : List (List ℕ)) (line : Line) → get_line words ≡ Some line → AreLine (codes "get" ∷ words) line
 get_line-sound words line h =
     let a = bind_some (client_at words) _ line h in
     let d = bind_some (name_at (rest_of words)) _ line a.2 in
     let v = bind_some (vector_of (rest_of (rest_of words))) _ line d.2 in
-    let built = only_if_some (is_built_read v.0) _ line v.2 in
+    let built = only_if_some (not (list_any is_write v.0)) _ line v.2 in
     let client = client_at-sound words a.0 a.1 in
     let name = name_at-sound (rest_of words) d.0 d.1 in
     let vector = vector_of-sound (rest_of (rest_of words)) v.0 v.1 in
@@ -95,7 +93,7 @@ get_line-sound words line h =
           vector_lawful = vector.2;
           each_spelled = vector.1;
         },
-        built.0,
+        not_true (list_any is_write v.0) built.0,
       );
     })
 

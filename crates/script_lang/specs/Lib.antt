@@ -1,3 +1,4 @@
+pub mod Verbs
 pub mod Spelling
 pub mod Scripts
 pub mod Laws

@@ -1,24 +1,28 @@
 -- How a text is read: what words and lines say, found word by word. That this undoes the spelling is proved in proofs/.
-use Rattle.std.specs.Prelude.{◌≡◌, ℕ, zero, suc, ◌+◌, ◌^◌, ◌==◌, ◌&&◌, ◌||◌, nat_le, Bool, true, false, List, [], ◌∷◌, ◌++◌, length, slice_index, Option, Some, None, Result, Ok, Err, if◌then◌else◌, bytes_eq, codes}
-use Rattle.std.specs.List.{slice_split, list_all}
+use Rattle.std.specs.Prelude.{◌≡◌, ℕ, zero, suc, ◌+◌, ◌^◌, ◌==◌, ◌&&◌, ◌||◌, nat_le, Bool, true, false, List, [], ◌∷◌, ◌++◌, length, slice_index, Option, Some, None, Result, Ok, Err, if◌then◌else◌, not, bytes_eq, codes}
+use Rattle.std.specs.List.{slice_split, list_all, list_any}
+use Rattle.std.specs.Option.{option_map}
 use Rattle.std.specs.Result.{result_ok}
 use Rattle.std.specs.Char.{is_ascii_digit}
 use Rattle.std.specs.Str.Parse.{digits_value}
 use Rattle.hex.specs.Hex.{decode_of}
 use Rattle.obj_model.specs.Names.{name_fault}
+use Rattle.obj_model.specs.SubOps.{is_write}
 use Rattle.obj_model.specs.Vectors.{vector_fault}
 use Rattle.obj_model.specs.declared.sub_op.SubOp.{SubOp}
-use Rattle.obj_model.specs.declared.sub_op.SubOp.TheVariants.{WriteFull, Remove, Read}
+use Rattle.obj_model.specs.declared.sub_op.SubOp.TheVariants as op
 use Rattle.script_lang.specs.declared.line.Line.{Line}
 use Rattle.script_lang.specs.declared.line.Line.TheVariants.{Op, Get}
 use Rattle.script_lang.specs.declared.line.Numbered.{Numbered}
+use Rattle.script_lang.specs.declared.verbs.OpVerb.{OpVerb}
+use Rattle.script_lang.specs.declared.verbs.OpVerb.TheVariants as verb
 use Rattle.script_lang.specs.declared.words.LineFault.{LineFault}
 use Rattle.script_lang.specs.declared.words.LineFault.TheVariants as fault
 use Rattle.script_lang.specs.declared.read.Cause.TheVariants.{Unbuilt, Long, Lines}
 use Rattle.script_lang.specs.declared.read.ScriptFault.{ScriptFault}
 use Rattle.script_lang.specs.declared.read.ScriptFault.TheVariants.{Bad, NoMemory}
-use Rattle.script_lang.specs.Spelling.{is_built_write, is_built_read}
 use Rattle.script_lang.specs.Scripts.{is_passed}
+use Rattle.script_lang.specs.Verbs.{op_verb_of}
 
 -- a reader answers what the words say; want of memory is free
 abbrev pub Tells : {A : Type 0} → Result A LineFault → Option A → Type 0
@@ -120,26 +124,55 @@ name_at words = first_of words >>= name_of
 abbrev pub TakenOp : Type 0
 TakenOp = SubOp × List (List ℕ)
 
--- what a `writefull` says behind its verb
-abbrev pub writefull_from : List (List ℕ) → Option TakenOp
-writefull_from words = bytes_at words >>= λ bytes. Some (WriteFull bytes, rest_of words)
+-- the word as the key to go on from, or none
+unfoldable pub after_of : List ℕ → Option (Option (List ℕ))
+after_of word = if bytes_eq word (codes "-") then Some None else option_map Some (name_of word)
 
--- a `remove` says nothing behind its verb
-abbrev pub remove_from : List (List ℕ) → Option TakenOp
-remove_from words = Some (Remove, words)
+-- the first word as the key to go on from, or none
+abbrev pub after_at : List (List ℕ) → Option (Option (List ℕ))
+after_at words = first_of words >>= after_of
 
--- what a `read` says behind its verb
-abbrev pub read_from : List (List ℕ) → Option TakenOp
-read_from words =
-    number_at words >>= λ off. number_at (rest_of words) >>= λ len. Some (Read off len, rest_of (rest_of words))
+-- a sub-operation without fields
+abbrev pub alone : SubOp → List (List ℕ) → Option TakenOp
+alone o words = Some (o, words)
 
--- a sub-operation of this verb, and the words behind it
-unfoldable pub op_from : List ℕ → List (List ℕ) → Option TakenOp
-op_from verb words =
-    if bytes_eq verb (codes "writefull") then writefull_from words
-    else if bytes_eq verb (codes "remove") then remove_from words
-    else if bytes_eq verb (codes "read") then read_from words
-    else None
+-- a sub-operation of one field
+abbrev pub of_one : {A : Type 0} → (List (List ℕ) → Option A) → (A → SubOp) → List (List ℕ) → Option TakenOp
+of_one read make words = read words >>= λ x. Some (make x, rest_of words)
+
+-- a sub-operation of two fields
+abbrev pub of_two : {A B : Type 0} → (List (List ℕ) → Option A) → (List (List ℕ) → Option B) → (A → B → SubOp)
+    → List (List ℕ) → Option TakenOp
+of_two first second make words =
+    first words >>= λ x. second (rest_of words) >>= λ y. Some (make x y, rest_of (rest_of words))
+
+-- what a sub-operation of this verb says behind it
+abbrev pub op_of : OpVerb → List (List ℕ) → Option TakenOp
+op_of verb.Create = alone op.Create
+op_of verb.WriteFull = of_one bytes_at op.WriteFull
+op_of verb.Write = of_two number_at bytes_at op.Write
+op_of verb.Append = of_one bytes_at op.Append
+op_of verb.Zero = of_two number_at number_at op.Zero
+op_of verb.Truncate = of_one number_at op.Truncate
+op_of verb.Remove = alone op.Remove
+op_of verb.SetXattr = of_two name_at bytes_at op.SetXattr
+op_of verb.RmXattr = of_one name_at op.RmXattr
+op_of verb.OmapSet = of_two name_at bytes_at op.OmapSet
+op_of verb.OmapRm = of_one name_at op.OmapRm
+op_of verb.OmapClear = alone op.OmapClear
+op_of verb.AssertExists = alone op.AssertExists
+op_of verb.AssertVer = of_one number_at op.AssertVer
+op_of verb.CmpXattr = of_two name_at bytes_at op.CmpXattr
+op_of verb.Read = of_two number_at number_at op.Read
+op_of verb.Stat = alone op.Stat
+op_of verb.GetXattr = of_one name_at op.GetXattr
+op_of verb.ListXattrs = alone op.ListXattrs
+op_of verb.OmapGet = of_one name_at op.OmapGet
+op_of verb.OmapList = of_two after_at number_at op.OmapList
+
+-- a sub-operation that begins with this word, and the words behind it
+abbrev pub op_from : List ℕ → List (List ℕ) → Option TakenOp
+op_from word words = op_verb_of word >>= λ v. op_of v words
 
 -- the first sub-operation, and the words behind it
 abbrev pub op_at : List (List ℕ) → Option TakenOp
@@ -181,7 +214,7 @@ op_line words =
     number_at (rest_of words) >>= λ tid.
     name_at (rest_of (rest_of words)) >>= λ name.
     vector_of (rest_of (rest_of (rest_of words))) >>= λ vector.
-    only_if (is_built_write vector) (Op (record { client = client; tid = tid; name = name; vector = vector }))
+    only_if (list_any is_write vector) (Op (record { client = client; tid = tid; name = name; vector = vector }))
 
 -- what a `get` line says behind its verb
 abbrev pub get_line : List (List ℕ) → Option Line
@@ -189,7 +222,7 @@ get_line words =
     client_at words >>= λ client.
     name_at (rest_of words) >>= λ name.
     vector_of (rest_of (rest_of words)) >>= λ vector.
-    only_if (is_built_read vector) (Get client name vector)
+    only_if (not (list_any is_write vector)) (Get client name vector)
 
 -- what a line of this verb says
 abbrev pub verb_line : List ℕ → List (List ℕ) → Option Line

@@ -1,24 +1,75 @@
 -- How a line is spelled. Each line has one spelling.
-use Rattle.std.specs.Prelude.{◌≡◌, ◌≤◌, ◌^◌, ◌==◌, ◌&&◌, ℕ, Bool, true, false, List, [], ◌∷◌, ◌++◌, None, decimal, codes, All}
-use Rattle.std.specs.List.{join_with_byte}
+use Rattle.std.specs.Prelude.{◌≡◌, ◌≤◌, ◌^◌, ℕ, true, false, List, [], ◌∷◌, ◌++◌, map, Option, Some, None, decimal, codes, All}
+use Rattle.std.specs.List.{AllByRecursion, join_with_byte, list_any}
 use Rattle.hex.specs.Hex.{encode_lower, IsBytes}
 use Rattle.obj_model.specs.Names.{name_fault}
+use Rattle.obj_model.specs.SubOps.{is_write}
 use Rattle.obj_model.specs.Vectors.{vector_fault}
 use Rattle.obj_model.specs.declared.sub_op.SubOp.{SubOp}
-use Rattle.obj_model.specs.declared.sub_op.SubOp.TheVariants.{WriteFull, Remove, Read}
+use Rattle.obj_model.specs.declared.sub_op.SubOp.TheVariants as op
 use Rattle.script_lang.specs.declared.line.Line.{Line}
 use Rattle.script_lang.specs.declared.line.Line.TheVariants.{Op, Get}
+use Rattle.script_lang.specs.Verbs.{op_word, verb_of}
 
 -- bytes as one word: pairs of lower-case hexadecimal digits, or a dash for none
 abbrev pub bytes_word : List ℕ → List ℕ
 bytes_word [] = codes "-"
 bytes_word (b ∷ bytes) = encode_lower (b ∷ bytes)
 
--- the words of a sub-operation
+-- a field of a sub-operation: what one of its words stands for
+pub data Field : Type 0 where
+  Number : ℕ → Field
+  Hex : List ℕ → Field
+  Key : List ℕ → Field
+  After : Option (List ℕ) → Field
+
+-- the word of a field; a dash stands for no key
+abbrev pub field_word : Field → List ℕ
+field_word (Number n) = decimal n
+field_word (Hex bytes) = bytes_word bytes
+field_word (Key key) = key
+field_word (After None) = codes "-"
+field_word (After (Some key)) = key
+
+-- what a field carries can be spelled: a number up to 2^62, bytes, a name
+abbrev pub IsField : Field → Type 0
+IsField (Number n) = n ≤ 2 ^ 62
+IsField (Hex bytes) = IsBytes bytes
+IsField (Key key) = name_fault key ≡ None
+IsField (After None) = Unit {0}
+IsField (After (Some key)) = name_fault key ≡ None
+
+-- the fields of a sub-operation, in the order of their words
+abbrev pub fields : SubOp → List Field
+fields op.Create = []
+fields (op.WriteFull bytes) = Hex bytes ∷ []
+fields (op.Write off bytes) = Number off ∷ Hex bytes ∷ []
+fields (op.Append bytes) = Hex bytes ∷ []
+fields (op.Zero off len) = Number off ∷ Number len ∷ []
+fields (op.Truncate size) = Number size ∷ []
+fields op.Remove = []
+fields (op.SetXattr key bytes) = Key key ∷ Hex bytes ∷ []
+fields (op.RmXattr key) = Key key ∷ []
+fields (op.OmapSet key bytes) = Key key ∷ Hex bytes ∷ []
+fields (op.OmapRm key) = Key key ∷ []
+fields op.OmapClear = []
+fields op.AssertExists = []
+fields (op.AssertVer ver) = Number ver ∷ []
+fields (op.CmpXattr key bytes) = Key key ∷ Hex bytes ∷ []
+fields (op.Read off len) = Number off ∷ Number len ∷ []
+fields op.Stat = []
+fields (op.GetXattr key) = Key key ∷ []
+fields op.ListXattrs = []
+fields (op.OmapGet key) = Key key ∷ []
+fields (op.OmapList after max) = After after ∷ Number max ∷ []
+
+-- the words of a sub-operation: its verb and its fields
 abbrev pub op_words : SubOp → List (List ℕ)
-op_words (WriteFull bytes) = codes "writefull" ∷ bytes_word bytes ∷ []
-op_words Remove = codes "remove" ∷ []
-op_words (Read off len) = codes "read" ∷ decimal off ∷ decimal len ∷ []
+op_words o = op_word (verb_of o) ∷ map field_word (fields o)
+
+-- what a sub-operation carries can be spelled
+abbrev pub IsOp : SubOp → Type 0
+IsOp o = AllByRecursion IsField (fields o)
 
 -- the words of sub-operations, with a semicolon as a word between two
 abbrev pub vector_words : List SubOp → List (List ℕ)
@@ -40,23 +91,6 @@ pub record IsClient (client : ℕ) : Type 0 where
   pub low : 1 ≤ client
   pub high : client ≤ 256
 
--- what a sub-operation carries can be spelled: bytes, and numbers up to 2^62
-abbrev pub IsOp : SubOp → Type 0
-IsOp (WriteFull bytes) = IsBytes bytes
-IsOp Remove = Unit {0}
-IsOp (Read off len) = (off ≤ 2 ^ 62) × (len ≤ 2 ^ 62)
-
--- the write vectors that a script may ask for so far: one `writefull` or one `remove`
-abbrev pub is_built_write : List SubOp → Bool
-is_built_write (WriteFull bytes ∷ []) = true
-is_built_write (Remove ∷ []) = true
-is_built_write ops = false
-
--- the read vectors that a script may ask for so far: one `read` of the whole body
-abbrev pub is_built_read : List SubOp → Bool
-is_built_read (Read off len ∷ []) = (off == 0) && (len == 0)
-is_built_read ops = false
-
 -- what each line carries: a client, a name and a vector within their limits
 pub record IsAddressed (client : ℕ) (name : List ℕ) (vector : List SubOp) : Type 0 where
   pub client_lawful : IsClient client
@@ -64,10 +98,10 @@ pub record IsAddressed (client : ℕ) (name : List ℕ) (vector : List SubOp) : 
   pub vector_lawful : vector_fault vector ≡ None
   pub each_spelled : All IsOp vector
 
--- a line that can be spelled
+-- a line that can be spelled; a request writes, and a reading does not
 abbrev pub IsLine : Line → Type 0
-IsLine (Op req) = IsAddressed req.client req.name req.vector × (req.tid ≤ 2 ^ 62) × (is_built_write req.vector ≡ true)
-IsLine (Get client name vector) = IsAddressed client name vector × (is_built_read vector ≡ true)
+IsLine (Op req) = IsAddressed req.client req.name req.vector × (req.tid ≤ 2 ^ 62) × (list_any is_write req.vector ≡ true)
+IsLine (Get client name vector) = IsAddressed client name vector × (list_any is_write vector ≡ false)
 
 -- a text, without its newline, says this line
 pub record Says (text : List ℕ) (line : Line) : Type 0 where

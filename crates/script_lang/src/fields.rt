@@ -1,8 +1,8 @@
 //! The fields of lines and sub-operations: the next word as a value.
 ghost use Rattle.std.specs.Prelude.{◌≡◌};
-ghost use Rattle.script_lang.specs.Reading.{Tells, rest_of, number_at, client_at, bytes_at, name_at};
+ghost use Rattle.script_lang.specs.Reading.{Tells, rest_of, number_at, client_at, bytes_at, name_at, after_at};
 
-use crate::values::{read_bytes, read_name, read_number};
+use crate::values::{read_after, read_bytes, read_name, read_number};
 use crate::words::{LineFault, Words};
 use obj_model::{Bytes, Name};
 use std::alloc::Global;
@@ -57,5 +57,16 @@ impl<'a> Words<'a> {
             return Err(LineFault::Wrong);
         };
         read_name(alloc, word)
+    }
+
+    /// The next word as the key to go on from, or none.
+    pub(crate) fn after(&mut self, alloc: Global) -> Result<Option<Name>, LineFault>
+        ensures value { Tells result (after_at self.old) }
+        ensures rest { self.new ≡ rest_of self.old }
+    {
+        let Some(word) = self.next() else {
+            return Err(LineFault::Wrong);
+        };
+        read_after(alloc, word)
     }
 }

@@ -12,11 +12,9 @@ mod read;
 mod split;
 mod sub_ops;
 mod values;
+mod verbs;
 mod words;
 
 pub use laws::{fault_is_one, reading_is_one, script_has_no_fault};
 pub use line::{Line, Numbered};
 pub use read::{Cause, LENGTH_LIMIT, LINES_LIMIT, ScriptFault, read_script};
-
-#[cfg(test)]
-mod tests;

@@ -2,13 +2,12 @@
 //!
 //! The verb says which fields follow. A verb, a field or a vector that is no spelling makes the whole line wrong.
 ghost use Rattle.std.specs.Prelude.{◌≡◌};
-ghost use Rattle.script_lang.specs.Spelling.{is_built_write, is_built_read};
 ghost use Rattle.script_lang.specs.Reading.{Tells, op_line, get_line, line_of};
 
 use crate::Line;
 use crate::sub_ops::read_vector;
 use crate::words::{LineFault, Words};
-use obj_model::{Req, SubOp};
+use obj_model::Req;
 use std::alloc::Global;
 
 /// The command of a line, given without its newline, which is not passed over.
@@ -37,7 +36,7 @@ fn read_op_line(alloc: Global, words: &mut Words) -> Result<Line, LineFault>
     let tid = words.number()?;
     let name = words.name(alloc)?;
     let vector = read_vector(alloc, words)?;
-    if !is_built_write(vector.ops()) {
+    if !vector.writes() {
         return Err(LineFault::Wrong);
     }
     Ok(Line::Op(Req {
@@ -55,7 +54,7 @@ fn read_get_line(alloc: Global, words: &mut Words) -> Result<Line, LineFault>
     let client = words.client()?;
     let name = words.name(alloc)?;
     let vector = read_vector(alloc, words)?;
-    if !is_built_read(vector.ops()) {
+    if vector.writes() {
         return Err(LineFault::Wrong);
     }
     Ok(Line::Get {
@@ -63,18 +62,4 @@ fn read_get_line(alloc: Global, words: &mut Words) -> Result<Line, LineFault>
         name,
         vector,
     })
-}
-
-// Whether a write request may carry these so far.
-fn is_built_write(ops: &[SubOp]) -> bool
-    ensures { result ≡ is_built_write ops.now }
-{
-    matches!(ops, [SubOp::WriteFull { .. } | SubOp::Remove])
-}
-
-// Whether a read request may carry these so far.
-fn is_built_read(ops: &[SubOp]) -> bool
-    ensures { result ≡ is_built_read ops.now }
-{
-    matches!(ops, [SubOp::Read { off: 0, len: 0 }])
 }

@@ -1,7 +1,8 @@
 //! Sub-operations and vectors of a line.
 ghost use Rattle.std.specs.Prelude.{◌≡◌};
-ghost use Rattle.script_lang.specs.Reading.{Tells, Takes, op_at, op_from, writefull_from, read_from, ops_of, vector_of};
+ghost use Rattle.script_lang.specs.Reading.{Tells, Takes, op_at, op_of, ops_of, vector_of};
 
+use crate::verbs::OpVerb;
 use crate::words::{LineFault, Words};
 use obj_model::{OpList, SubOp, Vector};
 use std::alloc::Global;
@@ -40,39 +41,92 @@ fn read_ops(alloc: Global, words: &mut Words) -> Result<OpList, LineFault>
 fn read_op(alloc: Global, words: &mut Words) -> Result<SubOp, LineFault>
     ensures { Takes result (op_at words.old) words.new }
 {
-    let Some(verb) = words.next() else {
+    let Some(word) = words.next() else {
         return Err(LineFault::Wrong);
     };
-    read_op_of(alloc, verb, words)
-}
-
-// The sub-operation of this verb, whose fields are the next words.
-#[tactic(auto, unfolding(crate::specs::Reading::op_from))]
-fn read_op_of(alloc: Global, verb: &[u8], words: &mut Words) -> Result<SubOp, LineFault>
-    ensures { Takes result (op_from verb.now words.old) words.new }
-{
-    if verb == b"writefull".as_slice() {
-        read_write_full(alloc, words)
-    } else if verb == b"remove".as_slice() {
-        Ok(SubOp::Remove)
-    } else if verb == b"read".as_slice() {
-        read_read(words)
-    } else {
-        Err(LineFault::Wrong)
+    match OpVerb::of(word) {
+        Some(verb) => read_op_of(alloc, verb, words),
+        None => Err(LineFault::Wrong),
     }
 }
 
-fn read_write_full(alloc: Global, words: &mut Words) -> Result<SubOp, LineFault>
-    ensures { Takes result (writefull_from words.old) words.new }
+// The sub-operation of this verb, whose fields are the next words.
+fn read_op_of(alloc: Global, verb: OpVerb, words: &mut Words) -> Result<SubOp, LineFault>
+    ensures { Takes result (op_of verb words.old) words.new }
 {
-    let bytes = words.bytes(alloc)?;
-    Ok(SubOp::WriteFull { bytes })
-}
-
-fn read_read(words: &mut Words) -> Result<SubOp, LineFault>
-    ensures { Takes result (read_from words.old) words.new }
-{
-    let off = words.number()?;
-    let len = words.number()?;
-    Ok(SubOp::Read { off, len })
+    match verb {
+        OpVerb::Create => Ok(SubOp::Create),
+        OpVerb::WriteFull => {
+            let bytes = words.bytes(alloc)?;
+            Ok(SubOp::WriteFull { bytes })
+        }
+        OpVerb::Write => {
+            let off = words.number()?;
+            let bytes = words.bytes(alloc)?;
+            Ok(SubOp::Write { off, bytes })
+        }
+        OpVerb::Append => {
+            let bytes = words.bytes(alloc)?;
+            Ok(SubOp::Append { bytes })
+        }
+        OpVerb::Zero => {
+            let off = words.number()?;
+            let len = words.number()?;
+            Ok(SubOp::Zero { off, len })
+        }
+        OpVerb::Truncate => {
+            let size = words.number()?;
+            Ok(SubOp::Truncate { size })
+        }
+        OpVerb::Remove => Ok(SubOp::Remove),
+        OpVerb::SetXattr => {
+            let key = words.name(alloc)?;
+            let bytes = words.bytes(alloc)?;
+            Ok(SubOp::SetXattr { key, bytes })
+        }
+        OpVerb::RmXattr => {
+            let key = words.name(alloc)?;
+            Ok(SubOp::RmXattr { key })
+        }
+        OpVerb::OmapSet => {
+            let key = words.name(alloc)?;
+            let bytes = words.bytes(alloc)?;
+            Ok(SubOp::OmapSet { key, bytes })
+        }
+        OpVerb::OmapRm => {
+            let key = words.name(alloc)?;
+            Ok(SubOp::OmapRm { key })
+        }
+        OpVerb::OmapClear => Ok(SubOp::OmapClear),
+        OpVerb::AssertExists => Ok(SubOp::AssertExists),
+        OpVerb::AssertVer => {
+            let ver = words.number()?;
+            Ok(SubOp::AssertVer { ver })
+        }
+        OpVerb::CmpXattr => {
+            let key = words.name(alloc)?;
+            let bytes = words.bytes(alloc)?;
+            Ok(SubOp::CmpXattr { key, bytes })
+        }
+        OpVerb::Read => {
+            let off = words.number()?;
+            let len = words.number()?;
+            Ok(SubOp::Read { off, len })
+        }
+        OpVerb::Stat => Ok(SubOp::Stat),
+        OpVerb::GetXattr => {
+            let key = words.name(alloc)?;
+            Ok(SubOp::GetXattr { key })
+        }
+        OpVerb::ListXattrs => Ok(SubOp::ListXattrs),
+        OpVerb::OmapGet => {
+            let key = words.name(alloc)?;
+            Ok(SubOp::OmapGet { key })
+        }
+        OpVerb::OmapList => {
+            let after = words.after(alloc)?;
+            let max = words.number()?;
+            Ok(SubOp::OmapList { after, max })
+        }
+    }
 }

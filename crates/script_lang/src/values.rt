@@ -5,7 +5,7 @@ ghost use Rattle.std.specs.Result.{result_ok};
 ghost use Rattle.hex.specs.Hex.{decode_of};
 ghost use Rattle.std.specs.Char.{is_ascii_digit};
 ghost use Rattle.std.specs.Str.Parse.{digits_value};
-ghost use Rattle.script_lang.specs.Reading.{Tells, is_numeral, is_lower_digit, number_of, bytes_of, name_of};
+ghost use Rattle.script_lang.specs.Reading.{Tells, is_numeral, is_lower_digit, number_of, bytes_of, name_of, after_of};
 
 use crate::words::LineFault;
 use hex::FromHexError;
@@ -55,6 +55,20 @@ pub(crate) fn read_name(alloc: Global, word: &[u8]) -> Result<Name, LineFault>
     match Name::new(bytes) {
         Ok(name) => Ok(name),
         Err(_) => Err(LineFault::Wrong),
+    }
+}
+
+/// The name that the word is, or none for a dash.
+#[tactic(auto, unfolding(crate::specs::Reading::after_of))]
+pub(crate) fn read_after(alloc: Global, word: &[u8]) -> Result<Option<Name>, LineFault>
+    ensures { Tells result (after_of word.now) }
+{
+    if word == b"-".as_slice() {
+        return Ok(None);
+    }
+    match read_name(alloc, word) {
+        Ok(name) => Ok(Some(name)),
+        Err(fault) => Err(fault),
     }
 }
 

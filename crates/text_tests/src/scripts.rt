@@ -1,6 +1,6 @@
 //! Scripts that were worked out by hand: what they say, and their faults.
-use super::*;
 use obj_model::SubOp;
+use script_lang::{Cause, Line, Numbered, ScriptFault, read_script};
 use std::alloc::Global;
 use std::test::*;
 
@@ -86,7 +86,7 @@ fn commands(rt: HostRuntime) -> Result<(), Fail> {
 
 #[test]
 fn wrong_lines(rt: HostRuntime) -> Result<(), Fail> {
-    let cases: [&[u8]; 38] = [
+    let cases: [&[u8]; 49] = [
         b"fly",
         b" ",
         b"op",
@@ -118,12 +118,23 @@ fn wrong_lines(rt: HostRuntime) -> Result<(), Fail> {
         b"op 1 1 a writefull 61 62",
         b"op 1 1 a remove ;",
         b"op 1 1 a remove remove",
-        b"op 1 1 a remove ; remove",
+        b"op 1 1 a remove ; ; remove",
+        b"op 1 1 a remove ; fly",
+        b"op 1 1 a assert_exists",
+        b"op 1 1 a truncate",
+        b"op 1 1 a write 61 0",
+        b"op 1 1 a setxattr - 61",
+        b"op 1 1 a omapset k 61 62",
+        b"op 1 1 a remove ; stat",
         b"op 1 1 a read 0 0",
         b"get 1 a remove",
-        b"get 1 a read 0 1",
+        b"get 1 a read 0",
+        b"get 1 a omaplist -- ",
+        b"get 1 a omaplist a; 1",
+        b"get 1 a stat ; append 61",
+        b"get 1 a Stat",
         b"get 1 a read 00 0",
-        b"get 1 a read 0 0 ; read 0 0",
+        b"get 1 a read 0 0 ;read 0 0",
         b"get 1 a read 0 0\r\n",
     ];
     for (place, text) in cases.iter().enumerate() {
@@ -133,6 +144,29 @@ fn wrong_lines(rt: HostRuntime) -> Result<(), Fail> {
         };
         assert_eq!(rt; outcome_of(rt.alloc(), text), Err(wrong), "case {place}");
     }
+    Ok(())
+}
+
+#[test]
+fn every_kind(rt: HostRuntime) -> Result<(), Fail> {
+    let text = b"op 1 1 a create ; writefull 61 ; write 4611686018427387904 - ; append 00ff
+op 1 2 a zero 0 4611686018427387904 ; truncate 7 ; setxattr k 61 ; rmxattr k ; remove
+op 1 3 a assert_exists ; assert_ver 0 ; cmpxattr k - ; omapset k -- ; omaprm k ; omapclear
+";
+    assert_eq!(rt;
+        outcome_of(rt.alloc(), text),
+        Err(ScriptFault::Bad {
+            line: 3,
+            cause: Cause::Unbuilt
+        })
+    );
+    let text = b"op 1 1 a create ; writefull 61 ; write 4611686018427387904 - ; append 00ff
+op 1 2 a zero 0 4611686018427387904 ; truncate 7 ; setxattr k 61 ; rmxattr k ; remove
+op 1 3 a assert_exists ; assert_ver 0 ; cmpxattr k - ; omapset k - ; omaprm k ; omapclear
+get 1 a read 0 1 ; stat ; getxattr k ; listxattrs ; omapget k ; omaplist - 9 ; omaplist k 0
+get 256 a assert_exists ; cmpxattr k 61
+";
+    assert_eq!(rt; outcome_of(rt.alloc(), text), Ok(5));
     Ok(())
 }
 
