@@ -5,11 +5,14 @@ use Rattle.hex.specs.Hex.{encode_lower, IsBytes}
 use Rattle.obj_model.specs.Names.{name_fault}
 use Rattle.obj_model.specs.SubOps.{is_write}
 use Rattle.obj_model.specs.Vectors.{vector_fault}
+use Rattle.obj_model.specs.declared.tier.Mode.{Mode}
+use Rattle.obj_model.specs.declared.tier.Mode.TheVariants.{Writeback, Readproxy, Proxy}
 use Rattle.obj_model.specs.declared.sub_op.SubOp.{SubOp}
 use Rattle.obj_model.specs.declared.sub_op.SubOp.TheVariants as op
 use Rattle.script_lang.specs.declared.line.Line.{Line}
-use Rattle.script_lang.specs.declared.line.Line.TheVariants.{Op, Get}
-use Rattle.script_lang.specs.Verbs.{op_word, verb_of}
+use Rattle.script_lang.specs.declared.line.Line.TheVariants as line
+use Rattle.script_lang.specs.declared.verbs.LineVerb.TheVariants as verb
+use Rattle.script_lang.specs.Verbs.{line_word, op_word, verb_of}
 
 -- bytes as one word: pairs of lower-case hexadecimal digits, or a dash for none
 abbrev pub bytes_word : List ℕ → List ℕ
@@ -77,10 +80,31 @@ vector_words [] = []
 vector_words (op ∷ []) = op_words op
 vector_words (op ∷ next ∷ ops) = op_words op ++ codes ";" ∷ vector_words (next ∷ ops)
 
+-- the word of a mode
+abbrev pub mode_word : Mode → List ℕ
+mode_word Writeback = codes "writeback"
+mode_word Readproxy = codes "readproxy"
+mode_word Proxy = codes "proxy"
+
 -- the words of a line
 abbrev pub line_words : Line → List (List ℕ)
-line_words (Op req) = codes "op" ∷ decimal req.client ∷ decimal req.tid ∷ req.name ∷ vector_words req.vector
-line_words (Get client name vector) = codes "get" ∷ decimal client ∷ name ∷ vector_words vector
+line_words (line.Op req) =
+    line_word verb.Op ∷ decimal req.client ∷ decimal req.tid ∷ req.name ∷ vector_words req.vector
+line_words (line.Get client name vector) = line_word verb.Get ∷ decimal client ∷ name ∷ vector_words vector
+line_words (line.Flush name) = line_word verb.Flush ∷ name ∷ []
+line_words (line.Tryflush name) = line_word verb.Tryflush ∷ name ∷ []
+line_words (line.BeginFlush name) = line_word verb.Begin ∷ line_word verb.Flush ∷ name ∷ []
+line_words (line.BeginTryflush name) = line_word verb.Begin ∷ line_word verb.Tryflush ∷ name ∷ []
+line_words (line.Finish name) = line_word verb.Finish ∷ name ∷ []
+line_words (line.Evict name) = line_word verb.Evict ∷ name ∷ []
+line_words line.Drain = line_word verb.Drain ∷ []
+line_words line.Agent = line_word verb.Agent ∷ []
+line_words (line.SetMode mode) = line_word verb.Mode ∷ mode_word mode ∷ []
+line_words (line.SetTime moment) = line_word verb.Time ∷ decimal moment ∷ []
+line_words line.StopCache = line_word verb.Stop ∷ codes "cache" ∷ []
+line_words line.StopBase = line_word verb.Stop ∷ codes "base" ∷ []
+line_words line.Par = line_word verb.Par ∷ []
+line_words line.End = line_word verb.End ∷ []
 
 -- the spelling of a line, without a newline: its words with one space between two
 abbrev pub spelling : Line → List ℕ
@@ -98,10 +122,29 @@ pub record IsAddressed (client : ℕ) (name : List ℕ) (vector : List SubOp) : 
   pub vector_lawful : vector_fault vector ≡ None
   pub each_spelled : All IsOp vector
 
+-- the bytes are a name
+abbrev pub IsName : List ℕ → Type 0
+IsName name = name_fault name ≡ None
+
 -- a line that can be spelled; a request writes, and a reading does not
 abbrev pub IsLine : Line → Type 0
-IsLine (Op req) = IsAddressed req.client req.name req.vector × (req.tid ≤ 2 ^ 62) × (list_any is_write req.vector ≡ true)
-IsLine (Get client name vector) = IsAddressed client name vector × (list_any is_write vector ≡ false)
+IsLine (line.Op req) =
+    IsAddressed req.client req.name req.vector × (req.tid ≤ 2 ^ 62) × (list_any is_write req.vector ≡ true)
+IsLine (line.Get client name vector) = IsAddressed client name vector × (list_any is_write vector ≡ false)
+IsLine (line.Flush name) = IsName name
+IsLine (line.Tryflush name) = IsName name
+IsLine (line.BeginFlush name) = IsName name
+IsLine (line.BeginTryflush name) = IsName name
+IsLine (line.Finish name) = IsName name
+IsLine (line.Evict name) = IsName name
+IsLine line.Drain = Unit {0}
+IsLine line.Agent = Unit {0}
+IsLine (line.SetMode mode) = Unit {0}
+IsLine (line.SetTime moment) = moment ≤ 2 ^ 62
+IsLine line.StopCache = Unit {0}
+IsLine line.StopBase = Unit {0}
+IsLine line.Par = Unit {0}
+IsLine line.End = Unit {0}
 
 -- a text, without its newline, says this line
 pub record Says (text : List ℕ) (line : Line) : Type 0 where

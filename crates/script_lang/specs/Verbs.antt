@@ -1,9 +1,63 @@
--- The first words of sub-operations.
-use Rattle.std.specs.Prelude.{ℕ, List, [], ◌∷◌, Option, find, bytes_eq, codes}
+-- The first words of lines and of sub-operations.
+use Rattle.std.specs.Prelude.{ℕ, Bool, List, [], ◌∷◌, Option, find, bytes_eq, codes}
+use Rattle.std.specs.List.{list_any}
 use Rattle.obj_model.specs.declared.sub_op.SubOp.{SubOp}
 use Rattle.obj_model.specs.declared.sub_op.SubOp.TheVariants as op
+use Rattle.script_lang.specs.declared.verbs.LineVerb.{LineVerb}
+use Rattle.script_lang.specs.declared.verbs.LineVerb.TheVariants as line
 use Rattle.script_lang.specs.declared.verbs.OpVerb.{OpVerb}
 use Rattle.script_lang.specs.declared.verbs.OpVerb.TheVariants as verb
+
+-- ---- lines
+
+-- the word of a line's verb
+abbrev pub line_word : LineVerb → List ℕ
+line_word line.Op = codes "op"
+line_word line.Get = codes "get"
+line_word line.Flush = codes "flush"
+line_word line.Tryflush = codes "tryflush"
+line_word line.Begin = codes "begin"
+line_word line.Finish = codes "finish"
+line_word line.Evict = codes "evict"
+line_word line.Drain = codes "drain"
+line_word line.Agent = codes "agent"
+line_word line.Mode = codes "mode"
+line_word line.Time = codes "time"
+line_word line.Stop = codes "stop"
+line_word line.Par = codes "par"
+line_word line.End = codes "end"
+
+-- all verbs of lines
+abbrev pub line_verbs : List LineVerb
+line_verbs =
+    line.Op ∷ line.Get ∷ line.Flush ∷ line.Tryflush ∷ line.Begin ∷ line.Finish ∷ line.Evict
+    ∷ line.Drain ∷ line.Agent ∷ line.Mode ∷ line.Time ∷ line.Stop ∷ line.Par ∷ line.End ∷ []
+
+-- the verb of this word among these, if there is one
+abbrev pub line_verb_among : List LineVerb → List ℕ → Option LineVerb
+line_verb_among verbs word = find (λ v. bytes_eq word (line_word v)) verbs
+
+-- the verb of a line that begins with this word, if there is one
+unfoldable pub line_verb_of : List ℕ → Option LineVerb
+line_verb_of word = line_verb_among line_verbs word
+
+-- ---- what is left out
+
+-- what the real system has in place of a line or a sub-operation, and is left out here
+abbrev pub left_out_verbs : List (List ℕ)
+left_out_verbs =
+    codes "snap" ∷ codes "rollback" ∷ codes "clone" ∷ codes "watch" ∷ codes "notify"
+    ∷ codes "exec" ∷ codes "lock" ∷ codes "unlock" ∷ codes "dedup" ∷ codes "redirect" ∷ []
+
+-- the modes of the real system that are left out here
+abbrev pub left_out_modes : List (List ℕ)
+left_out_modes = codes "forward" ∷ codes "readforward" ∷ codes "readonly" ∷ []
+
+-- the word is one of these
+abbrev pub is_one_of : List (List ℕ) → List ℕ → Bool
+is_one_of words word = list_any (λ other. bytes_eq word other) words
+
+-- ---- sub-operations
 
 -- the word of a verb
 abbrev pub op_word : OpVerb → List ℕ
