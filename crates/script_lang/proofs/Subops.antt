@@ -1,5 +1,5 @@
 -- Words read as sub-operations exactly where they spell them.
-use Rattle.std.proofs.Common.{◌≡◌, ℕ, zero, suc, ◌^◌, ◌≤◌, Bool, true, false, List, [], ◌∷◌, ◌++◌, length, map, Option, Some, None, if◌then◌else◌, refl, sym, ap, ◌∙◌, arith, bytes_eq, codes, decimal, append-nil, length-append}
+use Rattle.std.proofs.Common.{◌≡◌, ℕ, zero, suc, ◌^◌, ◌≤◌, Bool, true, false, List, [], ◌∷◌, ◌++◌, length, map, Option, Some, None, Result, Ok, Err, ◌==◌, if◌then◌else◌, refl, sym, ap, ◌∙◌, arith, bytes_eq, codes, decimal, append-nil, length-append}
 use Rattle.std.specs.List.{All, AllByRecursion}
 use Rattle.std.specs.Option.{option_map}
 use Rattle.std.specs.Cmp.Lexicographic.{bytes_decides}
@@ -13,42 +13,61 @@ use Rattle.script_lang.specs.declared.verbs.OpVerb.{OpVerb}
 use Rattle.script_lang.specs.declared.verbs.OpVerb.TheVariants as verb
 use Rattle.script_lang.specs.Verbs.{op_word, op_verbs, op_verb_of, verb_among, verb_of}
 use Rattle.script_lang.specs.Spelling.{Field, Number, Hex, Key, After, IsField, IsOp, field_word, fields, op_words, vector_words, bytes_word}
-use Rattle.script_lang.specs.Reading.{TakenOp, first_of, rest_of, number_of, bytes_of, name_of, after_of, number_at, bytes_at, name_at, after_at, alone, of_one, of_two, op_of, op_at, ops_within, ops_of, ops_behind, put_first, vector_of}
-use Rattle.script_lang.proofs.Options.{bind_some, faultless_some}
-use Rattle.script_lang.proofs.Joined.{IsWord, IsWords, IsWords-append, literal_is_word}
-use Rattle.script_lang.proofs.Names.{name_of-sound, name_of-name, name_is_word}
-use Rattle.script_lang.proofs.Numbers.{number_of-sound, number_of-decimal, decimal_is_word}
-use Rattle.script_lang.proofs.Hex.{bytes_of-sound, bytes_of-word, bytes_is_word}
+use Rattle.script_lang.specs.Reading.{TakenOp, after_at, after_of, alone, bytes_at, bytes_of, field_at, first_of, if_some, if_vector, is_of_kind, name_at, name_of, number_at, number_of, of_one, of_two, op_at, op_from, op_of, ops_behind, ops_of, ops_within, or_cause, put_first, rest_of, unknown, vector_of, word_at}
+use Rattle.script_lang.specs.declared.cause.Cause.{Cause}
+use Rattle.script_lang.specs.declared.cause.Cause.TheVariants as cause
+use Rattle.obj_model.specs.declared.vector.BadVector.{BadVector}
+use Rattle.script_lang.proofs.Options.{bind_ok, fit_ok, by_word_ok, or_cause_ok, only_if_ok}
+use Rattle.script_lang.proofs.Joined.{IsWord, IsWords, IsWords-append, field_at-word, literal_is_word, word_at-word}
+use Rattle.script_lang.proofs.Names.{name_of-sound, name_of-name, name_is_not, name_is_word}
+use Rattle.script_lang.proofs.Numbers.{number_of-sound, number_of-decimal, decimal_is_field, decimal_is_word}
+use Rattle.script_lang.proofs.Hex.{bytes_of-sound, bytes_of-word, bytes_is_field, bytes_is_word}
 
--- the first word reads as a value: it stands in front of the rest
+-- the first word, where there is one
 pub first_word : (words : List (List ℕ)) (word : List ℕ) → first_of words ≡ Some word → words ≡ word ∷ rest_of words
 first_word [] word h = cc h
 first_word (w ∷ words) word h = ap (λ (x : List ℕ). x ∷ words) (let e : w ≡ word = cc h in e)
 
-pub number_at-sound : (words : List (List ℕ)) (n : ℕ) → number_at words ≡ Some n → (words ≡ decimal n ∷ rest_of words) × (n ≤ 2 ^ 62)
-number_at-sound words n h =
-    let b = bind_some (first_of words) number_of n h in
-    let s = number_of-sound b.0 n b.2 in
-    (first_word words b.0 b.1 ∙ ap (λ (x : List ℕ). x ∷ rest_of words) s.0, s.1)
+if_some-same : (w word : List ℕ) → if_some w ≡ Some word → w ≡ word
+if_some-same [] word h = cc h
+if_some-same (b ∷ w) word h = cc h
 
-pub bytes_at-sound : (words : List (List ℕ)) (bytes : List ℕ) → bytes_at words ≡ Some bytes
+pub word_first : (words : List (List ℕ)) (word : List ℕ) → word_at words ≡ Some word → words ≡ word ∷ rest_of words
+word_first [] word h = cc h
+word_first (w ∷ words) word h = ap (λ (x : List ℕ). x ∷ words) (if_some-same w word h)
+
+field_by_test : (w word : List ℕ) (semicolon : Bool) → (if semicolon then None else if_some w) ≡ Some word → w ≡ word
+field_by_test w word true h = cc h
+field_by_test w word false h = if_some-same w word h
+
+field_first : (words : List (List ℕ)) (word : List ℕ) → field_at words ≡ Some word → words ≡ word ∷ rest_of words
+field_first [] word h = cc h
+field_first (w ∷ words) word h = ap (λ (x : List ℕ). x ∷ words) (field_by_test w word (bytes_eq w (codes ";")) h)
+
+number_at-sound : (words : List (List ℕ)) (n : ℕ) → number_at words ≡ Ok n → (words ≡ decimal n ∷ rest_of words) × (n ≤ 2 ^ 62)
+number_at-sound words n h =
+    let b = fit_ok _ number_of (field_at words) n h in
+    let s = number_of-sound b.0 n b.2 in
+    (field_first words b.0 b.1 ∙ ap (λ (x : List ℕ). x ∷ rest_of words) s.0, s.1)
+
+bytes_at-sound : (words : List (List ℕ)) (bytes : List ℕ) → bytes_at words ≡ Ok bytes
     → (words ≡ bytes_word bytes ∷ rest_of words) × IsBytes bytes
 bytes_at-sound words bytes h =
-    let b = bind_some (first_of words) bytes_of bytes h in
+    let b = fit_ok _ bytes_of (field_at words) bytes h in
     let s = bytes_of-sound b.0 bytes b.2 in
-    (first_word words b.0 b.1 ∙ ap (λ (x : List ℕ). x ∷ rest_of words) s.0, s.1)
+    (field_first words b.0 b.1 ∙ ap (λ (x : List ℕ). x ∷ rest_of words) s.0, s.1)
 
 -- a sub-operation with the words behind it comes from its words
 pub record IsTaken (words : List (List ℕ)) (op : SubOp) (rest : List (List ℕ)) : Type 0 where
   pub spelled : words ≡ op_words op ++ rest
   pub lawful : IsOp op
 
-pub name_at-sound : (words : List (List ℕ)) (name : List ℕ) → name_at words ≡ Some name
+name_at-sound : (words : List (List ℕ)) (name : List ℕ) → name_at words ≡ Ok name
     → (words ≡ name ∷ rest_of words) × (name_fault name ≡ None)
 name_at-sound words name h =
-    let b = bind_some (first_of words) name_of name h in
+    let b = fit_ok _ name_of (field_at words) name h in
     let s = name_of-sound b.0 name b.2 in
-    (first_word words b.0 b.1 ∙ ap (λ (x : List ℕ). x ∷ rest_of words) s.0, s.1)
+    (field_first words b.0 b.1 ∙ ap (λ (x : List ℕ). x ∷ rest_of words) s.0, s.1)
 
 -- a word reads as the key to go on from, or none, exactly where it is its word
 some_of_map : (o : Option (List ℕ)) (after : Option (List ℕ)) → option_map Some o ≡ Some after
@@ -72,26 +91,18 @@ after_of-sound : (word : List ℕ) (after : Option (List ℕ)) → after_of word
 unfolding after_of
 after_of-sound word after h = after_by_test word after _ refl h
 
-after_at-sound : (words : List (List ℕ)) (after : Option (List ℕ)) → after_at words ≡ Some after
+after_at-sound : (words : List (List ℕ)) (after : Option (List ℕ)) → after_at words ≡ Ok after
     → (words ≡ field_word (After after) ∷ rest_of words) × IsField (After after)
 after_at-sound words after h =
-    let b = bind_some (first_of words) after_of after h in
+    let b = fit_ok _ after_of (field_at words) after h in
     let s = after_of-sound b.0 after b.2 in
-    (first_word words b.0 b.1 ∙ ap (λ (x : List ℕ). x ∷ rest_of words) s.0, s.1)
-
--- no name is the dash
-name_is_no_dash : (name : List ℕ) (test : Bool) → name_fault name ≡ None → bytes_eq name (codes "-") ≡ test → test ≡ false
-name_is_no_dash name false h is = refl
-name_is_no_dash name true h is =
-    let e : name ≡ codes "-" = (bytes_decides name (codes "-")).0 is in
-    let bad : name_fault (codes "-") ≡ None = ap name_fault (sym e) ∙ h in
-    cc bad
+    (field_first words b.0 b.1 ∙ ap (λ (x : List ℕ). x ∷ rest_of words) s.0, s.1)
 
 after_of-word : (after : Option (List ℕ)) → IsField (After after) → after_of (field_word (After after)) ≡ Some after
 unfolding after_of
 after_of-word None h = refl
 after_of-word (Some name) h =
-    let dash = name_is_no_dash name (bytes_eq name (codes "-")) h refl in
+    let dash = name_is_not name (codes "-") (bytes_eq name (codes "-")) refl h refl in
     rw (dash, name_of-name name h) refl
 
 -- ---- verbs
@@ -143,9 +154,9 @@ op_verb_of-word verb.OmapList = refl
 -- ---- fields
 
 -- what a reader reads of the first word is a field's value, and the word is the field's
-abbrev IsSound : {A : Type 0} → (List (List ℕ) → Option A) → (A → Field) → Type 0
+abbrev IsSound : {A : Type 0} → (List (List ℕ) → Result A Cause) → (A → Field) → Type 0
 IsSound {A} read field =
-    (words : List (List ℕ)) (x : A) → read words ≡ Some x → (words ≡ field_word (field x) ∷ rest_of words) × IsField (field x)
+    (words : List (List ℕ)) (x : A) → read words ≡ Ok x → (words ≡ field_word (field x) ∷ rest_of words) × IsField (field x)
 
 -- sub-operations of a verb and one field, however they are made
 record HasOne {A : Type 0} (v : OpVerb) (field : A → Field) (make : A → SubOp) : Type 0 where
@@ -156,11 +167,11 @@ record HasTwo {A B : Type 0} (v : OpVerb) (first : A → Field) (second : B → 
   verb : (x : A) (y : B) → verb_of (make x y) ≡ v
   fields : (x : A) (y : B) → fields (make x y) ≡ first x ∷ second y ∷ []
 
-of_one-sound : {A : Type 0} (read : List (List ℕ) → Option A) (field : A → Field) (make : A → SubOp) (v : OpVerb)
-    → IsSound read field → HasOne v field make → (words : List (List ℕ)) (t : TakenOp) → of_one read make words ≡ Some t
+of_one-sound : {A : Type 0} (read : List (List ℕ) → Result A Cause) (field : A → Field) (make : A → SubOp) (v : OpVerb)
+    → IsSound read field → HasOne v field make → (words : List (List ℕ)) (t : TakenOp) → of_one read make words ≡ Ok t
     → IsTaken (op_word v ∷ words) t.0 t.1
 of_one-sound read field make v sound has words t h =
-    let b = bind_some (read words) _ t h in
+    let b = bind_ok (read words) _ t h in
     let s = sound words b.0 b.1 in
     let e : (make b.0, rest_of words) ≡ t = cc b.2 in
     rw (← e) (record {
@@ -168,13 +179,13 @@ of_one-sound read field make v sound has words t h =
       lawful = rw (has.fields b.0) (s.1, tt);
     })
 
-of_two-sound : {A B : Type 0} (read : List (List ℕ) → Option A) (next : List (List ℕ) → Option B) (first : A → Field)
+of_two-sound : {A B : Type 0} (read : List (List ℕ) → Result A Cause) (next : List (List ℕ) → Result B Cause) (first : A → Field)
     (second : B → Field) (make : A → B → SubOp) (v : OpVerb) → IsSound read first → IsSound next second
-    → HasTwo v first second make → (words : List (List ℕ)) (t : TakenOp) → of_two read next make words ≡ Some t
+    → HasTwo v first second make → (words : List (List ℕ)) (t : TakenOp) → of_two read next make words ≡ Ok t
     → IsTaken (op_word v ∷ words) t.0 t.1
 of_two-sound read next first second make v one two has words t h =
-    let a = bind_some (read words) _ t h in
-    let b = bind_some (next (rest_of words)) _ t a.2 in
+    let a = bind_ok (read words) _ t h in
+    let b = bind_ok (next (rest_of words)) _ t a.2 in
     let r = one words a.0 a.1 in
     let s = two (rest_of words) b.0 b.1 in
     let e : (make a.0 b.0, rest_of (rest_of words)) ≡ t = cc b.2 in
@@ -185,7 +196,7 @@ of_two-sound read next first second make v one two has words t h =
       lawful = rw (has.fields a.0 b.0) (r.1, (s.1, tt));
     })
 
-alone-sound : (o : SubOp) → fields o ≡ [] → (words : List (List ℕ)) (t : TakenOp) → alone o words ≡ Some t
+alone-sound : (o : SubOp) → fields o ≡ [] → (words : List (List ℕ)) (t : TakenOp) → alone o words ≡ Ok t
     → IsTaken (op_word (verb_of o) ∷ words) t.0 t.1
 alone-sound o none words t h =
     let e : (o, words) ≡ t = cc h in
@@ -204,7 +215,7 @@ key words name h = name_at-sound words name h
 after : IsSound after_at After
 after words a h = after_at-sound words a h
 
-op_of-sound : (v : OpVerb) (words : List (List ℕ)) (t : TakenOp) → op_of v words ≡ Some t → IsTaken (op_word v ∷ words) t.0 t.1
+op_of-sound : (v : OpVerb) (words : List (List ℕ)) (t : TakenOp) → op_of v words ≡ Ok t → IsTaken (op_word v ∷ words) t.0 t.1
 op_of-sound verb.Create words t h = alone-sound op.Create refl words t h
 op_of-sound verb.WriteFull words t h =
     of_one-sound bytes_at Hex op.WriteFull verb.WriteFull hex (record { verb = λ x. refl; fields = λ x. refl }) words t h
@@ -242,51 +253,57 @@ op_of-sound verb.OmapGet words t h =
 op_of-sound verb.OmapList words t h =
     of_two-sound after_at number_at After Number op.OmapList verb.OmapList after number (record { verb = λ x y. refl; fields = λ x y. refl }) words t h
 
-pub op_at-sound : (words : List (List ℕ)) (t : TakenOp) → op_at words ≡ Some t → IsTaken words t.0 t.1
-op_at-sound [] t h = cc h
-op_at-sound (word ∷ words) t h =
-    let v = bind_some (op_verb_of word) _ t h in
-    rw (op_verb_of-sound word v.0 v.1) (op_of-sound v.0 words t v.2)
+pub op_at-sound : (words : List (List ℕ)) (t : TakenOp) → op_at words ≡ Ok t → IsTaken words t.0 t.1
+op_at-sound words t h =
+    let b = by_word_ok (op_from (rest_of words)) (word_at words) t h in
+    let v = bind_ok (or_cause (unknown b.0 cause.Subop) (op_verb_of b.0)) _ t b.2 in
+    let verb = op_verb_of-sound b.0 v.0 (or_cause_ok _ (op_verb_of b.0) v.0 v.1) in
+    rw (word_first words b.0 b.1 ∙ ap (λ (x : List ℕ). x ∷ rest_of words) verb) (op_of-sound v.0 (rest_of words) t v.2)
+
+-- ---- the words of fields read as them
+
+number_reads : (n : ℕ) (rest : List (List ℕ)) → n ≤ 2 ^ 62 → number_at (decimal n ∷ rest) ≡ Ok n
+number_reads n rest h = rw (field_at-word (decimal n) rest (decimal_is_word n h) (decimal_is_field n h), number_of-decimal n h) refl
+
+bytes_read : (bytes : List ℕ) (rest : List (List ℕ)) → IsBytes bytes → bytes_at (bytes_word bytes ∷ rest) ≡ Ok bytes
+bytes_read bytes rest h =
+    rw (field_at-word (bytes_word bytes) rest (bytes_is_word bytes h) (bytes_is_field bytes h), bytes_of-word bytes h) refl
+
+name_is_field : (name : List ℕ) → name_fault name ≡ None → bytes_eq name (codes ";") ≡ false
+name_is_field name h = name_is_not name (codes ";") (bytes_eq name (codes ";")) refl h refl
+
+key_reads : (name : List ℕ) (rest : List (List ℕ)) → name_fault name ≡ None → name_at (name ∷ rest) ≡ Ok name
+key_reads name rest h = rw (field_at-word name rest (name_is_word name h) (name_is_field name h), name_of-name name h) refl
+
+after_reads : (after : Option (List ℕ)) (rest : List (List ℕ)) → IsField (After after)
+    → after_at (field_word (After after) ∷ rest) ≡ Ok after
+after_reads None rest h = rw (after_of-word None h) refl
+after_reads (Some name) rest h =
+    rw (field_at-word name rest (name_is_word name h) (name_is_field name h), after_of-word (Some name) h) refl
 
 -- the words of a sub-operation's fields read as it
-op_of-fields : (o : SubOp) (rest : List (List ℕ)) → IsOp o → op_of (verb_of o) (map field_word (fields o) ++ rest) ≡ Some (o, rest)
+op_of-fields : (o : SubOp) (rest : List (List ℕ)) → IsOp o → op_of (verb_of o) (map field_word (fields o) ++ rest) ≡ Ok (o, rest)
 op_of-fields op.Create rest h = refl
-op_of-fields (op.WriteFull bytes) rest h = rw (bytes_of-word bytes h.0) refl
-op_of-fields (op.Write off bytes) rest h = rw (number_of-decimal off h.0, bytes_of-word bytes h.1.0) refl
-op_of-fields (op.Append bytes) rest h = rw (bytes_of-word bytes h.0) refl
-op_of-fields (op.Zero off len) rest h = rw (number_of-decimal off h.0, number_of-decimal len h.1.0) refl
-op_of-fields (op.Truncate size) rest h = rw (number_of-decimal size h.0) refl
+op_of-fields (op.WriteFull bytes) rest h = rw (bytes_read bytes rest h.0) refl
+op_of-fields (op.Write off bytes) rest h = rw (number_reads off (bytes_word bytes ∷ rest) h.0, bytes_read bytes rest h.1.0) refl
+op_of-fields (op.Append bytes) rest h = rw (bytes_read bytes rest h.0) refl
+op_of-fields (op.Zero off len) rest h = rw (number_reads off (decimal len ∷ rest) h.0, number_reads len rest h.1.0) refl
+op_of-fields (op.Truncate size) rest h = rw (number_reads size rest h.0) refl
 op_of-fields op.Remove rest h = refl
-op_of-fields (op.SetXattr k bytes) rest h = rw (name_of-name k h.0, bytes_of-word bytes h.1.0) refl
-op_of-fields (op.RmXattr k) rest h = rw (name_of-name k h.0) refl
-op_of-fields (op.OmapSet k bytes) rest h = rw (name_of-name k h.0, bytes_of-word bytes h.1.0) refl
-op_of-fields (op.OmapRm k) rest h = rw (name_of-name k h.0) refl
+op_of-fields (op.SetXattr k bytes) rest h = rw (key_reads k (bytes_word bytes ∷ rest) h.0, bytes_read bytes rest h.1.0) refl
+op_of-fields (op.RmXattr k) rest h = rw (key_reads k rest h.0) refl
+op_of-fields (op.OmapSet k bytes) rest h = rw (key_reads k (bytes_word bytes ∷ rest) h.0, bytes_read bytes rest h.1.0) refl
+op_of-fields (op.OmapRm k) rest h = rw (key_reads k rest h.0) refl
 op_of-fields op.OmapClear rest h = refl
 op_of-fields op.AssertExists rest h = refl
-op_of-fields (op.AssertVer ver) rest h = rw (number_of-decimal ver h.0) refl
-op_of-fields (op.CmpXattr k bytes) rest h = rw (name_of-name k h.0, bytes_of-word bytes h.1.0) refl
-op_of-fields (op.Read off len) rest h = rw (number_of-decimal off h.0, number_of-decimal len h.1.0) refl
+op_of-fields (op.AssertVer ver) rest h = rw (number_reads ver rest h.0) refl
+op_of-fields (op.CmpXattr k bytes) rest h = rw (key_reads k (bytes_word bytes ∷ rest) h.0, bytes_read bytes rest h.1.0) refl
+op_of-fields (op.Read off len) rest h = rw (number_reads off (decimal len ∷ rest) h.0, number_reads len rest h.1.0) refl
 op_of-fields op.Stat rest h = refl
-op_of-fields (op.GetXattr k) rest h = rw (name_of-name k h.0) refl
+op_of-fields (op.GetXattr k) rest h = rw (key_reads k rest h.0) refl
 op_of-fields op.ListXattrs rest h = refl
-op_of-fields (op.OmapGet k) rest h = rw (name_of-name k h.0) refl
-op_of-fields (op.OmapList a max) rest h = rw (after_of-word a h.0, number_of-decimal max h.1.0) refl
-
-pub op_at-words : (o : SubOp) (rest : List (List ℕ)) → IsOp o → op_at (op_words o ++ rest) ≡ Some (o, rest)
-op_at-words o rest h = rw (op_verb_of-word (verb_of o)) (op_of-fields o rest h)
-
--- ---- several
-
-field_is_word : (f : Field) → IsField f → IsWord (field_word f)
-field_is_word (Number n) h = decimal_is_word n h
-field_is_word (Hex bytes) h = bytes_is_word bytes h
-field_is_word (Key k) h = name_is_word k h
-field_is_word (After None) h = literal_is_word (codes "-") refl
-field_is_word (After (Some k)) h = name_is_word k h
-
-fields_are_words : (fs : List Field) → AllByRecursion IsField fs → IsWords (map field_word fs)
-fields_are_words [] h = tt
-fields_are_words (f ∷ fs) h = (field_is_word f h.0, fields_are_words fs h.1)
+op_of-fields (op.OmapGet k) rest h = rw (key_reads k rest h.0) refl
+op_of-fields (op.OmapList a max) rest h = rw (after_reads a (decimal max ∷ rest) h.0, number_reads max rest h.1.0) refl
 
 verb_is_word : (v : OpVerb) → IsWord (op_word v)
 verb_is_word verb.Create = literal_is_word (op_word verb.Create) refl
@@ -311,6 +328,24 @@ verb_is_word verb.ListXattrs = literal_is_word (op_word verb.ListXattrs) refl
 verb_is_word verb.OmapGet = literal_is_word (op_word verb.OmapGet) refl
 verb_is_word verb.OmapList = literal_is_word (op_word verb.OmapList) refl
 
+pub op_at-words : (o : SubOp) (rest : List (List ℕ)) → IsOp o → op_at (op_words o ++ rest) ≡ Ok (o, rest)
+op_at-words o rest h =
+    let word = word_at-word (op_word (verb_of o)) (map field_word (fields o) ++ rest) (verb_is_word (verb_of o)) in
+    rw (word, op_verb_of-word (verb_of o)) (op_of-fields o rest h)
+
+-- ---- several
+
+field_is_word : (f : Field) → IsField f → IsWord (field_word f)
+field_is_word (Number n) h = decimal_is_word n h
+field_is_word (Hex bytes) h = bytes_is_word bytes h
+field_is_word (Key k) h = name_is_word k h
+field_is_word (After None) h = literal_is_word (codes "-") refl
+field_is_word (After (Some k)) h = name_is_word k h
+
+fields_are_words : (fs : List Field) → AllByRecursion IsField fs → IsWords (map field_word fs)
+fields_are_words [] h = tt
+fields_are_words (f ∷ fs) h = (field_is_word f h.0, fields_are_words fs h.1)
+
 pub op_is_words : (o : SubOp) → IsOp o → IsWords (op_words o)
 op_is_words o h = (verb_is_word (verb_of o), fields_are_words (fields o) h)
 
@@ -327,10 +362,10 @@ pub record AreSpelled (words : List (List ℕ)) (ops : List SubOp) : Type 0 wher
   pub lawful : AllByRecursion IsOp ops
   pub some : 1 ≤ length ops
 
-put_first-some : (op : SubOp) (others : Option (List SubOp)) (ops : List SubOp) → put_first op others ≡ Some ops
-    → (more : List SubOp) × (others ≡ Some more) × (op ∷ more ≡ ops)
-put_first-some op (Some more) ops h = (more, refl, cc h)
-put_first-some op None ops h = cc h
+put_first-ok : (op : SubOp) (others : Result (List SubOp) Cause) (ops : List SubOp) → put_first op others ≡ Ok ops
+    → (more : List SubOp) × (others ≡ Ok more) × (op ∷ more ≡ ops)
+put_first-ok op (Ok more) ops h = (more, refl, cc h)
+put_first-ok op (Err why) ops h = cc h
 
 -- one more in front
 spelled_in_front : (op : SubOp) (words : List (List ℕ)) (more : List SubOp) → IsOp op → AreSpelled words more
@@ -343,41 +378,41 @@ spelled_in_front op words (next ∷ more) h s =
       some = omega arith;
     }
 
-behind_by_test : (others : List (List ℕ) → Option (List SubOp))
-    → ((words : List (List ℕ)) (ops : List SubOp) → others words ≡ Some ops → AreSpelled words ops)
+behind_by_test : (others : List (List ℕ) → Result (List SubOp) Cause)
+    → ((words : List (List ℕ)) (ops : List SubOp) → others words ≡ Ok ops → AreSpelled words ops)
     → (op : SubOp) (word : List ℕ) (words : List (List ℕ)) (ops : List SubOp) (test : Bool) → bytes_eq word (codes ";") ≡ test
-    → (if test then put_first op (others words) else None) ≡ Some ops → IsOp op
+    → (if test then put_first op (others words) else Err cause.Words) ≡ Ok ops → IsOp op
     → AreSpelled (op_words op ++ word ∷ words) ops
 behind_by_test others ih op word words ops true is h lawful =
     let e : word ≡ codes ";" = (bytes_decides word (codes ";")).0 is in
-    let p = put_first-some op (others words) ops h in
+    let p = put_first-ok op (others words) ops h in
     rw (e, ← p.2) (spelled_in_front op words p.0 lawful (ih words p.0 p.1))
 behind_by_test others ih op word words ops false is h lawful = cc h
 
-behind-sound : (others : List (List ℕ) → Option (List SubOp))
-    → ((words : List (List ℕ)) (ops : List SubOp) → others words ≡ Some ops → AreSpelled words ops)
-    → (op : SubOp) (rest : List (List ℕ)) (ops : List SubOp) → ops_behind others op rest ≡ Some ops → IsOp op
+behind-sound : (others : List (List ℕ) → Result (List SubOp) Cause)
+    → ((words : List (List ℕ)) (ops : List SubOp) → others words ≡ Ok ops → AreSpelled words ops)
+    → (op : SubOp) (rest : List (List ℕ)) (ops : List SubOp) → ops_behind others op rest ≡ Ok ops → IsOp op
     → AreSpelled (op_words op ++ rest) ops
 behind-sound others ih op [] ops h lawful =
     let e : op ∷ [] ≡ ops = cc h in
     rw (← e) (record { spelled = append-nil (op_words op); lawful = (lawful, tt); some = omega arith })
 behind-sound others ih op (word ∷ words) ops h lawful = behind_by_test others ih op word words ops _ refl h lawful
 
-pub ops_within-sound : (most : ℕ) (words : List (List ℕ)) (ops : List SubOp) → ops_within most words ≡ Some ops
+pub ops_within-sound : (most : ℕ) (words : List (List ℕ)) (ops : List SubOp) → ops_within most words ≡ Ok ops
     → AreSpelled words ops
 unfolding ops_within
 ops_within-sound zero words ops h = cc h
 ops_within-sound (suc most) words ops h =
-    let b = bind_some (op_at words) _ ops h in
+    let b = bind_ok (op_at words) _ ops h in
     let s = op_at-sound words b.0 b.1 in
     rw s.spelled (behind-sound (ops_within most) (ops_within-sound most) b.0.0 b.0.1 ops b.2 s.lawful)
 
 pub ops_within-words : (op : SubOp) (ops : List SubOp) → AllByRecursion IsOp (op ∷ ops) → (most : ℕ) → length (op ∷ ops) ≤ most
-    → ops_within most (vector_words (op ∷ ops)) ≡ Some (op ∷ ops)
+    → ops_within most (vector_words (op ∷ ops)) ≡ Ok (op ∷ ops)
 unfolding ops_within
 ops_within-words op ops h zero le = absurd (omega arith)
 ops_within-words op [] h (suc most) le =
-    let at : op_at (op_words op) ≡ Some (op, []) = ap op_at (sym (append-nil (op_words op))) ∙ op_at-words op [] h.0 in
+    let at : op_at (op_words op) ≡ Ok (op, []) = ap op_at (sym (append-nil (op_words op))) ∙ op_at-words op [] h.0 in
     rw at refl
 ops_within-words op (next ∷ ops) h (suc most) le =
     let at = op_at-words op (codes ";" ∷ vector_words (next ∷ ops)) h.0 in
@@ -394,19 +429,27 @@ vector_words_enough (op ∷ []) = omega (arith, op_words_some op)
 vector_words_enough (op ∷ next ∷ ops) =
     omega (arith, op_words_some op, vector_words_enough (next ∷ ops), length-append (op_words op) (codes ";" ∷ vector_words (next ∷ ops)))
 
-pub vector_of-sound : (words : List (List ℕ)) (ops : List SubOp) → vector_of words ≡ Some ops
-    → (words ≡ vector_words ops) × All IsOp ops × (vector_fault ops ≡ None)
-unfolding vector_of
-vector_of-sound words ops h =
-    let b = bind_some (ops_of words) _ ops h in
-    let s = ops_within-sound (length words) words b.0 b.1 in
-    let f = faultless_some (vector_fault b.0) b.0 ops b.2 in
-    let all = All-from_recursion IsOp b.0 s.lawful in
-    rw (← f.1) (s.spelled, all, f.0)
+if_vector-ok : (fault : Option BadVector) (ops vector : List SubOp) → if_vector fault ops ≡ Ok vector → (fault ≡ None) × (ops ≡ vector)
+if_vector-ok None ops vector h = (refl, cc h)
+if_vector-ok (Some fault) ops vector h = cc h
 
-pub vector_of-words : (ops : List SubOp) → All IsOp ops → vector_fault ops ≡ None → vector_of (vector_words ops) ≡ Some ops
+pub vector_of-sound : (writes : Bool) (words : List (List ℕ)) (ops : List SubOp) → vector_of writes words ≡ Ok ops
+    → (words ≡ vector_words ops) × All IsOp ops × (vector_fault ops ≡ None) × (is_of_kind writes ops ≡ true)
 unfolding vector_of
-vector_of-words [] h f = cc f
-vector_of-words (op ∷ ops) h f =
+vector_of-sound writes words ops h =
+    let b = bind_ok (ops_of words) _ ops h in
+    let d = bind_ok (if_vector (vector_fault b.0) b.0) _ ops b.2 in
+    let kind = only_if_ok (is_of_kind writes d.0) _ d.0 ops d.2 in
+    let s = ops_within-sound (length words) words b.0 b.1 in
+    let f = if_vector-ok (vector_fault b.0) b.0 d.0 d.1 in
+    let all = All-from_recursion IsOp b.0 s.lawful in
+    let same : b.0 ≡ ops = f.1 ∙ kind.1 in
+    (rw (← same) s.spelled, rw (← same) all, rw (← same) f.0, rw (← kind.1) kind.0)
+
+pub vector_of-words : (writes : Bool) (ops : List SubOp) → All IsOp ops → vector_fault ops ≡ None → is_of_kind writes ops ≡ true
+    → vector_of writes (vector_words ops) ≡ Ok ops
+unfolding vector_of
+vector_of-words writes [] h f k = cc f
+vector_of-words writes (op ∷ ops) h f k =
     let read = ops_within-words op ops (recursion_from_All IsOp (op ∷ ops) h) (length (vector_words (op ∷ ops))) (vector_words_enough (op ∷ ops)) in
-    rw (read, f) refl
+    rw (read, f, k) refl

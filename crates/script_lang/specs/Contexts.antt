@@ -1,7 +1,7 @@
 -- Where a line stands: behind which moment, and in which block.
 use Rattle.std.specs.Prelude.{◌≡◌, ◌≤◌, ℕ, ◌==◌, ◌||◌, nat_lt, Bool, true, false, List, [], ◌∷◌, ◌++◌, length, Option, Some, None, if◌then◌else◌, bytes_eq, refl}
 use Rattle.std.specs.List.{list_any}
-use Rattle.std.specs.Coded.{Coded, code_by, coded×, coded_ℕ, coded_list, coded_Option}
+use Rattle.std.specs.Coded.{Coded, code_by, coded×, coded_ℕ, coded_list, coded_option}
 use Rattle.script_lang.specs.declared.line.Line.{Line}
 use Rattle.script_lang.specs.declared.line.Line.TheVariants as line
 use Rattle.script_lang.specs.declared.verbs.LineVerb.TheVariants as verb
@@ -62,3 +62,9 @@ IsInTime least other = Unit {0}
 pub record MayStand (ctx : Context) (texts : List (List ℕ)) (said : Line) : Type 0 where
   pub in_time : IsInTime ctx.moment said
   pub in_place : is_in_place ctx.block texts said ≡ true
+
+-- how a context is written down as a value of contracts
+abbrev pub coded_context : Coded Context
+coded_context =
+    code_by (ℕ × Option (List ℕ)) (coded× coded_ℕ (coded_option (coded_list coded_ℕ))) (λ c. (c.moment, c.block))
+    (λ p. record { moment = p.0; block = p.1 }) (λ _. refl)

@@ -18,6 +18,11 @@ Tells (Ok value) said = said ≡ Ok value
 Tells (Err (fault.Wrong why)) said = said ≡ Err why
 Tells (Err fault.NoMemory) said = Unit {0}
 
+-- a fault has this cause; want of memory is free
+abbrev pub Blames : LineFault → Cause → Type 0
+Blames (fault.Wrong why) wanted = why ≡ wanted
+Blames fault.NoMemory wanted = Unit {0}
+
 -- a reader takes a sub-operation, and leaves the words behind it; want of memory is free
 abbrev pub Takes : Result SubOp LineFault → Result TakenOp Cause → List (List ℕ) → Type 0
 Takes (Ok o) said rest = said ≡ Ok (o, rest)

@@ -68,7 +68,8 @@ rest_of (word ∷ words) = words
 
 -- a word that is not empty
 abbrev pub if_some : List ℕ → Option (List ℕ)
-if_some word = if length word == 0 then None else Some word
+if_some [] = None
+if_some (b ∷ word) = Some (b ∷ word)
 
 -- a word that is no semicolon
 abbrev pub if_field : List ℕ → Option (List ℕ)
@@ -138,13 +139,17 @@ after_of word = if bytes_eq word (codes "-") then Some None else option_map Some
 unfoldable pub unknown : List ℕ → Cause → Cause
 unknown word why = if is_one_of left_out_verbs word then cause.LeftOut word else why
 
+-- a word that is no mode: it is left out here, or unknown
+abbrev pub unknown_mode : List ℕ → Cause
+unknown_mode word = if is_one_of left_out_modes word then cause.LeftOut word else cause.Mode
+
 -- the mode of a word, or that it is left out or unknown
 unfoldable pub mode_of : List ℕ → Result Mode Cause
 mode_of word =
     if bytes_eq word (mode_word mode.Writeback) then Ok mode.Writeback
     else if bytes_eq word (mode_word mode.Readproxy) then Ok mode.Readproxy
     else if bytes_eq word (mode_word mode.Proxy) then Ok mode.Proxy
-    else Err (if is_one_of left_out_modes word then cause.LeftOut word else cause.Mode)
+    else Err (unknown_mode word)
 
 -- ---- fields of sub-operations
 

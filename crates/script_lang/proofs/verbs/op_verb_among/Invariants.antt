@@ -1,6 +1,6 @@
 use Rattle.std.proofs.Common.{◌≡◌, drop}
 use Rattle.script_lang.specs.Verbs.{verb_among}
-use Rattle.script_lang.proofs.verbs.among.Given as goal
+use Rattle.script_lang.proofs.verbs.op_verb_among.Given as goal
 
 -- the verb is among those that are left
 abbrev pub invariant-loop-verb : goal.invariant-loop-verb
