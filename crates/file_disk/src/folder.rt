@@ -1,4 +1,5 @@
-//! The folder that a file lies in, which has to reach the platter too before a new file is there to stay.
+//! The folder that a file lies in, which has to reach the platter too before a new file is there to
+//! stay.
 use std::fs::{OpenFile, OpenOptions};
 use std::rt::Files;
 

@@ -14,6 +14,3 @@ pub use blank::{finish, format};
 pub use front::{Front, look};
 pub use held::read;
 pub use laws::{a_log_is_headed, a_log_is_not_refused, one_log};
-
-#[cfg(test)]
-mod tests;

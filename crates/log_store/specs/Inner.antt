@@ -1,8 +1,8 @@
 -- What a store keeps of itself.
 use Rattle.std.specs.Prelude.{◌≡◌, ℕ, ◌≤◌, ◌^◌, Bool, true, List, [], Option}
 use Rattle.obj_model.specs.declared.change.Pool.{Pool}
-use Rattle.tier_outside.specs.Disk.{Draft}
-use Rattle.tier_outside.specs.Moments.{Now}
+use Rattle.tier_outside.specs.Disk.{DiskMoment}
+use Rattle.tier_outside.specs.DiskMoments.{Now}
 use Rattle.gate_journal.specs.declared.journal.Journal.{Journal}
 use Rattle.pool_map.specs.Pools.{PoolView}
 use Rattle.store_face.specs.Views.{Sides, one_map, last}
@@ -16,7 +16,7 @@ sides_of m = record { before = m.before.value.table; after = m.after.value.table
 
 -- Whatever a stop leaves holds one of the two maps of the last moment. In a live store these are one, the map in memory, and its log
 -- stands on the disk.
-pub record IsWhole (role : Pool) (pair room : ℕ) (journal : Journal) (map : PoolView) (live : Bool) (moments : Option (List Draft)) (past : List Sides) : Type 0 where
+pub record IsWhole (role : Pool) (pair room : ℕ) (journal : Journal) (map : PoolView) (live : Bool) (moments : Option (List DiskMoment)) (past : List Sides) : Type 0 where
   pub journal_is : IsLogJournal journal
   pub roomy : room ≤ 2 ^ 40
   pub rested : map.ready ≡ []

@@ -1,9 +1,9 @@
 //! The store: its map in memory, which the journal on its disk makes.
+ghost use Rattle.tier_outside.specs.DiskMoments.{Leaves, SomeImage};
 ghost use Rattle.std.specs.Prelude.{◌≡◌, ◌≤◌, ◌<◌, ◌+◌, ◌^◌, ◌++◌, ◌∷◌, [], true, map, vec_len, vec_capacity, IfOk, IfErr, OnErr};
 ghost use Rattle.std.specs.Option.{option_copied};
 ghost use Rattle.tier_outside.specs.Causes.{Rose};
 ghost use Rattle.tier_outside.specs.Disk.{IsImage};
-ghost use Rattle.gate_journal.specs.Stands.{Leaves};
 ghost use Rattle.obj_model.specs.Changes.{IsTxn};
 ghost use Rattle.store_face.specs.Calls.{Got, Listed, Committed, Reopened};
 ghost use Rattle.store_face.specs.Tables.{changed_by};
@@ -12,7 +12,7 @@ ghost use Rattle.pool_map.specs.Pools.{at_rest};
 ghost use Rattle.store_face.specs.Views as store;
 ghost use Rattle.log_image.specs.Images.{HoldsLog};
 ghost use Rattle.log_store.specs.Commits.{SameStore, Uses, WithOrWithout};
-ghost use Rattle.log_store.specs.Opens.{KeepsRefused, Left, Opened, OpeningStops, Refused};
+ghost use Rattle.log_store.specs.Opens.{KeepsRefused, Opened, OpeningStops, Refused};
 ghost use Rattle.log_store.specs.Inner.{sides_of};
 ghost use Rattle.log_store.specs.Views.{HoldsSides, store_of};
 
@@ -46,9 +46,10 @@ pub struct LogStore<D: Disk + Drop> {
 }
 
 impl<D: Disk + Drop> Model for LogStore<D> {
+    ghost use Rattle.tier_outside.specs.Moments.{told};
     ghost use Rattle.std.specs.Prelude.{◌+◌, map};
     ghost use Rattle.log_store.specs.Inner.{IsWhole, sides_of};
-    ghost use Rattle.log_store.specs.Views.{LogView, coded_log, told};
+    ghost use Rattle.log_store.specs.Views.{LogView, coded_log};
 
     ghost Value = { LogView };
 
@@ -237,7 +238,7 @@ impl<D: Disk + Drop> Store for LogStore<D> {
     fn reopen(&mut self) -> Result<(), StoreFault>
         ensures reopened { Reopened (store_of self.old) (store_of self.new) result }
         ensures any_moment { Leaves self.old.disk self.new.disk IsImage }
-        ensures read { IfOk result (λ done. Left self.old.disk (λ image. store.Now (store_of self.new) (λ s. HoldsLog self.old.role self.old.pair image (record { table = s.before; used = self.new.used })))) }
+        ensures read { IfOk result (λ done. SomeImage self.old.disk (λ image. store.Now (store_of self.new) (λ s. HoldsLog self.old.role self.old.pair image (record { table = s.before; used = self.new.used })))) }
         ensures refused { OnErr result (self.new.used ≡ self.old.used) }
         ensures same { SameStore self.old self.new }
     {

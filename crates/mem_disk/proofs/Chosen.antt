@@ -9,7 +9,8 @@ use Rattle.tier_outside.specs.Disk.{is_touched}
 use Rattle.tier_outside.proofs.DiskImages.{touched_more}
 use Rattle.mem_disk.specs.declared.pick.Pick.{Pick}
 use Rattle.mem_disk.specs.declared.pick.Pick.TheVariants.{Old, New, Mixed, Junk}
-use Rattle.mem_disk.specs.Picks.{chosen, ChosenIn, CopiedIn, is_between}
+use Rattle.mem_disk.specs.Picks.{chosen}
+use Rattle.mem_disk.specs.Steps.Choosing.{ChosenIn, CopiedIn, is_between}
 
 -- a byte that was chosen is chosen again
 pub chosen_twice : (pick : Pick) (at old new : ℕ) → chosen pick at old (chosen pick at old new) ≡ chosen pick at old new

@@ -1,4 +1,4 @@
+pub mod Calls
 pub mod Chosen
 pub mod Pushed
 pub mod Settling
-pub mod Turns

@@ -1,106 +1,143 @@
 -- A disk in memory as its callers see it.
-use Rattle.std.specs.Prelude.{◌≡◌, ◌⊎◌, ℕ, ◌+◌, ◌-◌, ◌^◌, ◌/◌, Bool, true, false, ◌||◌, nat_eq, nat_lt, nat_le, min, List, [], ◌∷◌, ◌++◌, length, map, take, Option, Some, None, Result, OnOk, OnErr, is_ok, if◌then◌else◌}
-use Rattle.std.specs.List.{list_any}
-use Rattle.std.specs.declared.snapshot.Snapshot.{Snapshot}
-use Rattle.tier_outside.specs.Disk.{Draft, IsImage, settled, written, resized}
-use Rattle.tier_outside.specs.Moments.{last}
+use Rattle.std.specs.Prelude.{◌≡◌, ◌≢◌, ◌⊎◌, ℕ, ◌+◌, ◌-◌, ◌/◌, Bool, false, ◌==◌, ◌||◌, nat_lt, nat_le, List, [], ◌∷◌, ◌++◌, Option, Some, None, Result, Ok, Err, if◌then◌else◌}
+use Rattle.tier_outside.specs.Causes.{one_more, is_listed}
+use Rattle.tier_outside.specs.Disk.{DiskMoment, IsImage, settled}
+use Rattle.tier_outside.specs.DiskMoments.{last}
+use Rattle.mem_disk.specs.Picks.{Picked}
 use Rattle.mem_disk.specs.declared.pick.Pick.{Pick}
-use Rattle.mem_disk.specs.declared.state.State.{State}
+use Rattle.mem_disk.specs.declared.plan.Turn.{Turn}
+use Rattle.mem_disk.specs.declared.plan.Turn.TheVariants.{Works, Torn, Off}
 
--- how many calls there were, which calls fail by their number, and from which call on the disk has stopped
+-- how many calls there were, which calls fail by their number, and from which call on the disk has
+-- stopped
 pub record Schedule : Type 0 where
   pub calls : ℕ
   pub fails : List ℕ
   pub stop : Option ℕ
 
+-- a disk in memory: its moments, its faults, how many of these were for want of memory, which of
+-- its calls fail, and what a restart leaves
+pub record Memory : Type 0 where
+  pub moments : List DiskMoment
+  pub faults : ℕ
+  pub starved : ℕ
+  pub schedule : Schedule
+  pub pick : Pick
+
+-- a disk that was made of some bytes
+abbrev pub fresh : List ℕ → List ℕ → Option ℕ → Pick → Memory
+fresh bytes fails stop pick = record {
+  moments = settled bytes ∷ [];
+  faults = 0;
+  starved = 0;
+  schedule = record { calls = 0; fails = fails; stop = stop };
+  pick = pick;
+}
+
+-- a disk in memory tells its moments
+abbrev pub told : Memory → Option (List DiskMoment)
+told m = Some m.moments
+
+-- the moment now
+abbrev pub now : Memory → DiskMoment
+now m = last m.moments
+
+-- ---- which calls work
+
 -- the number of the next call
 abbrev pub next : Schedule → ℕ
-next s = min (s.calls + 1) (2 ^ 64 - 1)
+next s = one_more s.calls
+
+-- the next call is one that fails once
+abbrev pub fails_next : Schedule → Bool
+fails_next s = is_listed (next s) s.fails
+
+-- a call that is listed is torn, and any other works
+abbrev pub torn_where : Bool → Turn
+torn_where listed = if listed then Torn else Works
+
+-- What the call of a number does, if it is no restart: from the call behind the stop on it is off,
+-- and at the stop it is torn.
+abbrev pub turn_at : Option ℕ → ℕ → Bool → Turn
+turn_at None call listed = torn_where listed
+turn_at (Some first) call listed = if nat_lt first call then Off else torn_where ((first == call) || listed)
+
+-- what the next call does, if it is no restart
+abbrev pub turn_of : Schedule → Turn
+turn_of s = turn_at s.stop (next s) (fails_next s)
+
+-- what the next call does, if it is a restart: a stop does not make it fail
+abbrev pub restart_turn : Schedule → Turn
+restart_turn s = torn_where (fails_next s)
 
 -- one more call was counted
 abbrev pub counted : Schedule → Schedule
 counted s = record { calls = next s; fails = s.fails; stop = s.stop }
-
--- the next call is one that fails once
-abbrev pub is_listed : Schedule → Bool
-is_listed s = list_any (λ call. nat_eq call (next s)) s.fails
 
 -- the stop began at this call or before
 abbrev pub has_stopped : Option ℕ → ℕ → Bool
 has_stopped None call = false
 has_stopped (Some first) call = nat_le first call
 
--- the next call fails, if it is no restart
-abbrev pub is_due : Schedule → Bool
-is_due s = has_stopped s.stop (next s) || is_listed s
-
 -- a restart ended a stop that had begun
 abbrev pub restarted : Schedule → Schedule
 restarted s = record { calls = s.calls; fails = s.fails; stop = if has_stopped s.stop s.calls then None else s.stop }
 
-abbrev pub draft_of : State → Draft
-draft_of s = record { content = s.content.items; stable = s.stable.items; touched = s.touched.items; low = s.low; high = s.high }
+-- ---- what a call leaves
 
--- the moments that are past, and now
-abbrev pub moments_of : List (Snapshot State) → State → List Draft
-moments_of past now = map (λ s. draft_of s.value) past ++ draft_of now ∷ []
+-- it worked and changed nothing
+abbrev pub answered : Memory → Memory
+answered m = record m { schedule = counted m.schedule }
 
--- what the disk reads as and what was settled are both images of the moment
-pub record IsSound (d : Draft) : Type 0 where
-  pub reads : IsImage d d.content
-  pub keeps : IsImage d d.stable
+-- it failed and did nothing
+abbrev pub refused : Memory → Memory
+refused m = record m { faults = one_more m.faults; schedule = counted m.schedule }
 
--- a disk in memory: its moments, its faults, which of its calls fail, and what a restart leaves
-pub record Memory : Type 0 where
-  pub moments : List Draft
-  pub faults : ℕ
-  pub schedule : Schedule
-  pub pick : Pick
+-- it failed for want of memory and did nothing
+abbrev pub starved : Memory → Memory
+starved m = record m { faults = one_more m.faults; starved = one_more m.starved; schedule = counted m.schedule }
 
--- a disk that was made of some bytes
-abbrev pub fresh : List ℕ → List ℕ → Option ℕ → Pick → Memory
-fresh bytes fails stop pick = record { moments = settled bytes ∷ []; faults = 0; schedule = record { calls = 0; fails = fails; stop = stop }; pick = pick }
+-- it worked, and the disk is as at this moment
+abbrev pub worked : DiskMoment → Memory → Memory
+worked d m = record m { moments = m.moments ++ d ∷ []; schedule = counted m.schedule }
 
--- a disk in memory tells its moments
-abbrev pub told : Memory → Option (List Draft)
-told m = Some m.moments
+-- it failed in the middle, and the disk is as at this moment
+abbrev pub torn : DiskMoment → Memory → Memory
+torn d m = record m { moments = m.moments ++ d ∷ []; faults = one_more m.faults; schedule = counted m.schedule }
 
--- one more fault
-abbrev pub tallied : ℕ → ℕ
-tallied faults = min (faults + 1) (2 ^ 64 - 1)
+-- it worked as a restart, and the disk has these bytes, all settled
+abbrev pub woken : List ℕ → Memory → Memory
+woken bytes m = record m { moments = m.moments ++ settled bytes ∷ []; schedule = restarted (counted m.schedule) }
 
--- a call counts once, and its fault once
-pub record Counts {T E : Type 0} (old new : Memory) (result : Result T E) : Type 0 where
-  pub faults : new.faults ≡ (if is_ok result then old.faults else tallied old.faults)
-  pub schedule : new.schedule ≡ counted old.schedule
-  pub pick : new.pick ≡ old.pick
+-- A call that changes nothing works in its turn, and else is refused.
+abbrev pub Answers : {T E : Type 0} → Turn → Memory → Memory → Result T E → Type 0
+Answers turn old new (Ok value) = (turn ≡ Works) × (new ≡ answered old)
+Answers turn old new (Err fault) = (turn ≢ Works) × (new ≡ refused old)
 
--- a restart that works ends a stop, and one that fails does not
-pub record CountsRestart {T E : Type 0} (old new : Memory) (result : Result T E) : Type 0 where
-  pub faults : new.faults ≡ (if is_ok result then old.faults else tallied old.faults)
-  pub schedule : new.schedule ≡ (if is_ok result then restarted (counted old.schedule) else counted old.schedule)
-  pub pick : new.pick ≡ old.pick
+-- A write or a cut does all of its work in its turn, and a part of it where it is torn; or it wants
+-- memory and does nothing. After a stop it does nothing.
+abbrev pub Changes : {E : Type 0} → Turn → (all part : DiskMoment) → Memory → Memory → Result (Unit {0}) E → Type 0
+Changes turn all part old new (Ok done) = (turn ≡ Works) × (new ≡ worked all old)
+Changes turn all part old new (Err fault) =
+    ((turn ≡ Off) × (new ≡ refused old)) ⊎ ((turn ≡ Torn) × (new ≡ torn part old)) ⊎ ((turn ≢ Off) × (new ≡ starved old))
 
--- a call that wants no memory fails exactly where it is due
-pub record FailsWhereDue {T E : Type 0} (old : Memory) (result : Result T E) : Type 0 where
-  pub ok : OnOk result (is_due old.schedule ≡ false)
-  pub err : OnErr result (is_due old.schedule ≡ true)
+-- A sync settles all in its turn, or wants memory and does nothing; else it is refused.
+abbrev pub Settles : {E : Type 0} → Turn → Memory → Memory → Result (Unit {0}) E → Type 0
+Settles turn old new (Ok done) = (turn ≡ Works) × (new ≡ worked (settled (now old).content) old)
+Settles turn old new (Err fault) = ((turn ≢ Works) × (new ≡ refused old)) ⊎ ((turn ≡ Works) × (new ≡ starved old))
 
--- a call that may grow fails where it is due; elsewhere it fails only for want of memory, and then nothing changed
-pub record FailsOrGrows {T E : Type 0} (due : Bool) (old new : Memory) (result : Result T E) : Type 0 where
-  pub ok : OnOk result (due ≡ false)
-  pub err : OnErr result ((due ≡ true) ⊎ (new.moments ≡ old.moments))
+-- A restart leaves what the pick says in its turn, or wants memory and does nothing; else it is
+-- refused.
+abbrev pub Wakes : {E : Type 0} → Turn → Memory → Memory → Result (Unit {0}) E → Type 0
+Wakes turn old new (Ok done) =
+    (turn ≡ Works) × ((bytes : List ℕ) × Picked old.pick (now old) bytes × (new ≡ woken bytes old))
+Wakes turn old new (Err fault) = ((turn ≢ Works) × (new ≡ refused old)) ⊎ ((turn ≡ Works) × (new ≡ starved old))
 
 -- half of the way from a size to another
 abbrev pub halfway : ℕ → ℕ → ℕ
 halfway from to = if nat_lt from to then from + (to - from) / 2 else from - (from - to) / 2
 
--- a failed write changed nothing, or wrote the first half of its bytes
-abbrev pub WroteHalf : ℕ → List ℕ → Memory → Memory → Type 0
-WroteHalf off bytes old new =
-    (new.moments ≡ old.moments) ⊎ ((last new.moments).content ≡ written off (take (length bytes / 2) bytes) (last old.moments).content)
-
--- a failed cut changed nothing, or went half of the way
-abbrev pub CutHalf : ℕ → Memory → Memory → Type 0
-CutHalf size old new =
-    (new.moments ≡ old.moments) ⊎ ((last new.moments).content ≡ resized (halfway (length (last old.moments).content) size) (last old.moments).content)
+-- what the disk reads as and what was settled are both images of the moment
+pub record IsSound (d : DiskMoment) : Type 0 where
+  pub reads : IsImage d d.content
+  pub keeps : IsImage d d.stable

@@ -1,16 +1,19 @@
 //! What a stop leaves of bytes that are not settled.
 ghost use Rattle.std.specs.Prelude.{◌≡◌, ◌==◌, length, if◌then◌else◌};
-ghost use Rattle.mem_disk.specs.Picks.{chosen, ChosenIn, is_between, is_unsettled, picked_size};
+ghost use Rattle.mem_disk.specs.Picks.{chosen, is_unsettled, picked_size};
+ghost use Rattle.mem_disk.specs.Steps.Choosing.{ChosenIn, is_between};
 ghost use Rattle.tier_outside.specs.Disk.{is_touched};
 
-/// What a restart leaves of the bytes that are not settled. The size is the settled one for `Old`, and else the size that the disk had.
+/// What a restart leaves of the bytes that are not settled. The size is the settled one for `Old`,
+/// and else the size that the disk had.
 #[derive(Clone, Copy, Debug, PartialEq, Eq)]
 pub enum Pick {
     /// Each byte is the settled one.
     Old,
     /// Each byte is the one that was written.
     New,
-    /// The byte at an offset is the settled one where bit (offset mod 64) is 0, and else the one that was written.
+    /// The byte at an offset is the settled one where bit (offset mod 64) is 0, and else the one
+    /// that was written.
     Mixed(u64),
     /// Each byte is this one.
     Junk(u8),

@@ -1,6 +1,6 @@
 //! When the calls of a disk in memory fail.
-ghost use Rattle.std.specs.Prelude.{◌≡◌, ◌↔◌, ◌||◌, false, true, if◌then◌else◌};
-ghost use Rattle.mem_disk.specs.Memory.{counted, has_stopped, is_listed, is_due, restarted};
+ghost use Rattle.std.specs.Prelude.{◌≡◌};
+ghost use Rattle.mem_disk.specs.Memory.{counted, restart_turn, restarted, torn_where, turn_at, turn_of};
 
 use std::marker::Model;
 
@@ -45,19 +45,19 @@ impl Plan {
     /// Counts the next call, which is no restart.
     pub fn turn(&mut self) -> Turn
         ensures counted { self.new ≡ counted self.old }
-        ensures works { (result ≡ Turn.Works) ↔ (is_due self.old ≡ false) }
+        ensures turn { result ≡ turn_of self.old }
     {
         self.calls = self.calls.saturating_add(1);
         turn_at(self.stop_at, self.calls, self.fails.contains(&self.calls))
     }
 
-    /// Counts the next call, which is a restart, and tells whether it works.
-    pub fn restart_turn(&mut self) -> bool
+    /// Counts the next call, which is a restart.
+    pub fn restart_turn(&mut self) -> Turn
         ensures counted { self.new ≡ counted self.old }
-        ensures works { (result ≡ true) ↔ (is_listed self.old ≡ false) }
+        ensures turn { result ≡ restart_turn self.old }
     {
         self.calls = self.calls.saturating_add(1);
-        !self.fails.contains(&self.calls)
+        torn_where(self.fails.contains(&self.calls))
     }
 
     /// A restart was done, which ends a stop that has begun.
@@ -73,7 +73,7 @@ impl Plan {
 }
 
 fn turn_at(stop_at: Option<u64>, call: u64, listed: bool) -> Turn
-    ensures { (result ≡ Turn.Works) ↔ ((has_stopped stop_at call || listed) ≡ false) }
+    ensures { result ≡ turn_at stop_at call listed }
 {
     match stop_at {
         Some(first) if first < call => Turn::Off,
@@ -83,7 +83,7 @@ fn turn_at(stop_at: Option<u64>, call: u64, listed: bool) -> Turn
 }
 
 fn torn_where(listed: bool) -> Turn
-    ensures { result ≡ (if listed then Turn.Torn else Turn.Works) }
+    ensures { result ≡ torn_where listed }
 {
     if listed { Turn::Torn } else { Turn::Works }
 }

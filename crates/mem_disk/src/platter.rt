@@ -1,10 +1,11 @@
-//! What a disk in memory holds, at each moment so far. It keeps the moments that the trait of disks asks for; the past is known to proofs
-//! alone and takes no memory.
-ghost use Rattle.std.specs.Prelude.{◌≡◌, ◌≤◌, ◌+◌, ◌-◌, ◌^◌, Some, List, [], ◌∷◌, length, take, drop, min, max, OnOk, OnErr, IfOk};
-ghost use Rattle.tier_outside.specs.Disk.{Draft, IsImage, Writes, Cuts, Syncs, Restarts, Reads, settled, written, resized};
-ghost use Rattle.tier_outside.specs.Moments.{last, Goes};
+//! What a disk in memory holds, at each moment so far. It keeps the moments that the trait of disks
+//! asks for; the past is known to proofs alone and takes no memory.
+ghost use Rattle.std.specs.Prelude.{◌≡◌, ◌≤◌, ◌+◌, ◌-◌, ◌^◌, ℕ, List, [], ◌∷◌, ◌++◌, length, take, drop, min, max, OnOk, OnErr, IfOk};
+ghost use Rattle.tier_outside.specs.Disk.{Reads, resized, settled, touch, trim, written};
+ghost use Rattle.tier_outside.specs.DiskMoments.{last};
+ghost use Rattle.mem_disk.specs.Memory.{IsSound};
 ghost use Rattle.mem_disk.specs.Picks.{Picked};
-ghost use Rattle.mem_disk.specs.Memory.{draft_of};
+ghost use Rattle.mem_disk.specs.Steps.Moments.{moment_of};
 
 use crate::pick::Pick;
 use crate::state::{State, cut, restart, settle, write};
@@ -21,18 +22,16 @@ pub struct Platter {
 
 impl Model for Platter {
     ghost use Rattle.std.specs.Prelude.{List};
-    ghost use Rattle.tier_outside.specs.Disk.{Draft};
-    ghost use Rattle.mem_disk.specs.Memory.{IsSound, draft_of, moments_of};
+    ghost use Rattle.tier_outside.specs.Disk.{DiskMoment};
+    ghost use Rattle.mem_disk.specs.Steps.Moments.{moments_of};
 
-    ghost Value = { List Draft };
+    ghost Value = { List DiskMoment };
 
     ghost view = { λ p. moments_of p.past.items p.state };
-
-    ghost invariant = { λ p. IsSound (draft_of p.state) };
 }
 
 fn settled_state(alloc: Global, bytes: Vec<u8>) -> Result<State, AllocError>
-    ensures { IfOk result (λ s. draft_of s ≡ settled bytes.items) }
+    ensures { IfOk result (λ s. moment_of s ≡ settled bytes.items) }
 {
     let size = bytes.len();
     Ok(State {
@@ -44,8 +43,8 @@ fn settled_state(alloc: Global, bytes: Vec<u8>) -> Result<State, AllocError>
     })
 }
 
-// The bytes from an offset, as many as there are and fit.
-fn read_part(content: &[u8], off: usize, buf: &mut [u8]) -> usize
+/// Reads the bytes from an offset into the buffer, as many as there are and fit.
+pub fn read_part(content: &[u8], off: usize, buf: &mut [u8]) -> usize
     ensures count { result ≡ min (length buf.old) (length content.now - off) }
     ensures bytes { take result buf.new ≡ take result (drop off content.now) }
     ensures rest { drop result buf.new ≡ drop result buf.old }
@@ -58,7 +57,7 @@ fn read_part(content: &[u8], off: usize, buf: &mut [u8]) -> usize
     count
 }
 
-#[tactic(auto, using(crate::proofs::Pushed::now_is, crate::proofs::Pushed::went))]
+#[tactic(auto, using(crate::proofs::Pushed::now_is))]
 impl Platter {
     /// Bytes that are all settled.
     pub fn new(alloc: Global, bytes: Vec<u8>) -> Result<Platter, AllocError>
@@ -88,10 +87,10 @@ impl Platter {
     pub fn write(&mut self, off: usize, bytes: &[u8], done: usize) -> Result<(), AllocError>
         requires room { off + length bytes.now ≤ 2 ^ 41 }
         requires part { done ≤ length bytes.now }
-        ensures step { Goes (Writes off (length bytes.now)) (Some self.old) (Some self.new) }
-        ensures done { OnOk result ((last self.new).content ≡ written off (take done bytes.now) (last self.old).content) }
+        requires sound { IsSound (last self.old) }
+        ensures ok { OnOk result (self.new ≡ self.old ++ touch off (length bytes.now) (written off (take done bytes.now) (last self.old).content) (last self.old) ∷ []) }
         ensures err { OnErr result (self.new ≡ self.old) }
-        ensures image { IsImage (last self.new) (last self.new).content }
+        ensures sound { IsSound (last self.new) }
     {
         let before = Snapshot::of(&self.state);
         self.past.reserve(1)?;
@@ -104,10 +103,10 @@ impl Platter {
     pub fn cut(&mut self, size: usize, part: usize) -> Result<(), AllocError>
         requires least { min (length (last self.old).content) size ≤ part }
         requires most { part ≤ max (length (last self.old).content) size }
-        ensures step { Goes (Cuts size) (Some self.old) (Some self.new) }
-        ensures done { OnOk result ((last self.new).content ≡ resized part (last self.old).content) }
+        requires sound { IsSound (last self.old) }
+        ensures ok { OnOk result (self.new ≡ self.old ++ trim size (resized part (last self.old).content) (last self.old) ∷ []) }
         ensures err { OnErr result (self.new ≡ self.old) }
-        ensures image { IsImage (last self.new) (last self.new).content }
+        ensures sound { IsSound (last self.new) }
     {
         let before = Snapshot::of(&self.state);
         self.past.reserve(1)?;
@@ -118,10 +117,10 @@ impl Platter {
 
     /// Settles all of it; without memory nothing changes.
     pub fn sync(&mut self) -> Result<(), AllocError>
-        ensures step { Goes Syncs (Some self.old) (Some self.new) }
-        ensures done { OnOk result (Syncs (last self.old) (last self.new)) }
+        requires sound { IsSound (last self.old) }
+        ensures ok { OnOk result (self.new ≡ self.old ++ settled (last self.old).content ∷ []) }
         ensures err { OnErr result (self.new ≡ self.old) }
-        ensures image { IsImage (last self.new) (last self.new).content }
+        ensures sound { IsSound (last self.new) }
     {
         let before = Snapshot::of(&self.state);
         self.past.reserve(1)?;
@@ -132,11 +131,10 @@ impl Platter {
 
     /// Settles what a stop leaves by a pick; without memory nothing changes.
     pub fn restart(&mut self, pick: Pick) -> Result<(), AllocError>
-        ensures step { Goes Restarts (Some self.old) (Some self.new) }
-        ensures done { OnOk result (Restarts (last self.old) (last self.new)) }
-        ensures picked { OnOk result (Picked pick (last self.old) (last self.new).content) }
+        requires sound { IsSound (last self.old) }
+        ensures ok { OnOk result ((bytes : List ℕ) × Picked pick (last self.old) bytes × (self.new ≡ self.old ++ settled bytes ∷ [])) }
         ensures err { OnErr result (self.new ≡ self.old) }
-        ensures image { IsImage (last self.new) (last self.new).content }
+        ensures sound { IsSound (last self.new) }
     {
         let before = Snapshot::of(&self.state);
         self.past.reserve(1)?;

@@ -1,9 +1,11 @@
--- Streams of bytes: what a source has left, what a sink holds, and which calls of the memory forms fail.
-use Rattle.std.specs.Prelude.{◌≡◌, ◌↔◌, ℕ, ◌+◌, ◌-◌, ◌^◌, ◌<◌, ◌≤◌, min, Bool, true, false, List, [], ◌++◌, length, take, Option, Some, None, option_map, Result, IfOk, IfSome, MatchResult, nat_eq}
+-- Streams of bytes: what a source has left, what a sink holds, and which calls of the memory forms
+-- fail.
+use Rattle.std.specs.Prelude.{◌≡◌, ◌↔◌, ℕ, ◌<◌, ◌≤◌, true, false, List, [], ◌++◌, length, take, Option, Some, None, option_map, Result, IfOk, IfSome, MatchResult}
 use Rattle.std.specs.Io.KnownBytes.{Appends}
-use Rattle.std.specs.List.{list_any}
+use Rattle.tier_outside.specs.Causes.{one_more, is_listed}
 
--- Where a source tells, the piece was the front of what was left. It tells before exactly where it tells after.
+-- Where a source tells, the piece was the front of what was left. It tells before exactly where it
+-- tells after.
 abbrev pub Loses : Option (List ℕ) → Option (List ℕ) → List ℕ → Type 0
 Loses old new piece = old ≡ option_map (λ rest. piece ++ rest) new
 
@@ -15,11 +17,13 @@ Gives old new buf result = MatchResult result (λ count. Loses old new (take cou
 abbrev pub EndsAtEnd : {E : Type 0} → Option (List ℕ) → List ℕ → Result ℕ E → Type 0
 EndsAtEnd old buf result = IfOk result (λ count. IfSome old (λ bytes. 0 < length buf → ((count ≡ 0) ↔ (bytes ≡ []))))
 
--- Where a sink tells, the piece came behind what it held. It tells before exactly where it tells after.
+-- Where a sink tells, the piece came behind what it held. It tells before exactly where it tells
+-- after.
 abbrev pub Gains : Option (List ℕ) → Option (List ℕ) → List ℕ → Type 0
 Gains old new piece = new ≡ option_map (λ bytes. bytes ++ piece) old
 
--- Where a sink tells, a front of these bytes came behind what it held: none of them, all, or any between.
+-- Where a sink tells, a front of these bytes came behind what it held: none of them, all, or any
+-- between.
 pub record GainsFront (old new : Option (List ℕ)) (bytes : List ℕ) : Type 0 where
   pub count : ℕ
   pub within : count ≤ length bytes
@@ -29,26 +33,20 @@ pub record GainsFront (old new : Option (List ℕ)) (bytes : List ℕ) : Type 0 
 abbrev pub Puts : {E : Type 0} → Option (List ℕ) → Option (List ℕ) → List ℕ → Result (Unit {0}) E → Type 0
 Puts old new piece result = MatchResult result (λ _. Gains old new piece) (λ _. GainsFront old new piece)
 
--- a count of 64 bits after one more; at its end it stays
-abbrev pub one_more : ℕ → ℕ
-one_more count = min (count + 1) (2 ^ 64 - 1)
-
--- the call of this number is to fail
-abbrev pub is_listed : ℕ → List ℕ → Bool
-is_listed call fails = list_any (λ listed. nat_eq listed call) fails
-
 -- a call fails exactly where its number is listed; the calls so far were this many
 abbrev pub FailsWhereListed : {T E : Type 0} → List ℕ → ℕ → Result T E → Type 0
 FailsWhereListed fails calls result = MatchResult result (λ _. is_listed (one_more calls) fails ≡ false) (λ _. is_listed (one_more calls) fails ≡ true)
 
--- a source in memory: the bytes left, the numbers of the calls that fail, the calls and the faults so far
+-- a source in memory: the bytes left, the numbers of the calls that fail, the calls and the faults
+-- so far
 pub record SourceState : Type 0 where
   pub left : List ℕ
   pub fails : List ℕ
   pub calls : ℕ
   pub faults : ℕ
 
--- a sink in memory: the bytes it holds, the numbers of the calls that fail, the calls and the faults so far
+-- a sink in memory: the bytes it holds, the numbers of the calls that fail, the calls and the
+-- faults so far
 pub record SinkState : Type 0 where
   pub held : List ℕ
   pub fails : List ℕ
@@ -64,7 +62,8 @@ told_since (Some start) now = now
 abbrev pub Writes : {E : Type 0} → Option (List ℕ) → Option (List ℕ) → List ℕ → Result (Unit {0}) E → Type 0
 Writes old new piece result = MatchResult result (λ _. Appends old new piece) (λ _. (count : ℕ) × (count ≤ length piece) × Appends old new (take count piece))
 
--- an adapter over a reader or a writer: the bytes left or held, where they are told, and the faults so far
+-- an adapter over a reader or a writer: the bytes left or held, where they are told, and the faults
+-- so far
 pub record StreamState : Type 0 where
   pub bytes : Option (List ℕ)
   pub faults : ℕ

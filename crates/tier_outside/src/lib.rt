@@ -1,6 +1,7 @@
-//! What the tier meets outside of itself, as traits: where bytes come from and where they go, and a disk that may stop at
-//! any moment. Each tells what a call does to what stands out there, and that a fault is answered only where the thing
-//! itself failed. Forms in memory fail where they are told to; adapters go over std's reader and writer.
+//! What the tier meets outside of itself, as traits: where bytes come from and where they go, and a
+//! disk that may stop at any moment. Each tells what a call does to what stands out there, and that
+//! a fault is answered only where the thing itself failed. Forms in memory fail where they are told
+//! to; adapters go over std's reader and writer.
 #![tactic(auto)]
 
 mod calls;
@@ -19,6 +20,3 @@ pub use sink::{Sink, SinkFault};
 pub use source::{Source, SourceFault};
 pub use std_sink::StdSink;
 pub use std_source::StdSource;
-
-#[cfg(test)]
-mod tests;

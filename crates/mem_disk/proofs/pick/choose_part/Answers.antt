@@ -1,6 +1,6 @@
 use Rattle.std.proofs.Common.{arith}
 use Rattle.mem_disk.proofs.Chosen.{between_reached, chosen_same}
-use Rattle.mem_disk.specs.Picks.{is_between}
+use Rattle.mem_disk.specs.Steps.Choosing.{is_between}
 use Rattle.mem_disk.proofs.pick.choose_part.Goals as goal
 
 pub returns : goal.returns

@@ -1,4 +1,4 @@
-use Rattle.mem_disk.specs.Picks.{ChosenIn, is_between}
+use Rattle.mem_disk.specs.Steps.Choosing.{ChosenIn, is_between}
 use Rattle.mem_disk.proofs.pick.choose_part.Given as goal
 
 abbrev pub invariant-loop-at : goal.invariant-loop-at

@@ -1,6 +1,6 @@
 use Rattle.std.specs.Prelude.{take}
 use Rattle.tier_outside.specs.Disk.{is_touched}
-use Rattle.mem_disk.specs.Picks.{ChosenIn}
+use Rattle.mem_disk.specs.Steps.Choosing.{ChosenIn}
 use Rattle.mem_disk.proofs.pick.choose_ranges.Given as goal
 
 abbrev pub invariant-loop-range : goal.invariant-loop-range

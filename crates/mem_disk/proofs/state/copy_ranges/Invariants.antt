@@ -1,6 +1,6 @@
 use Rattle.std.specs.Prelude.{take}
 use Rattle.tier_outside.specs.Disk.{is_touched}
-use Rattle.mem_disk.specs.Picks.{CopiedIn}
+use Rattle.mem_disk.specs.Steps.Choosing.{CopiedIn}
 use Rattle.mem_disk.proofs.state.copy_ranges.Given as goal
 
 abbrev pub invariant-loop-range : goal.invariant-loop-range

@@ -1,7 +1,7 @@
+use Rattle.tier_outside.specs.Moments.{told}
 use Rattle.std.proofs.Common.{◌∙◌, ◌≡◌, refl, ap, map, List, [], ◌∷◌, ◌++◌}
 use Rattle.store_face.specs.Views.{Sides, one_map, last}
 use Rattle.log_store.specs.Inner.{sides_of}
-use Rattle.log_store.specs.Views.{told}
 use Rattle.log_store.proofs.Reopens.{whole_opened}
 use Rattle.log_store.proofs.store.LogStore.attach.Goals as goal
 
