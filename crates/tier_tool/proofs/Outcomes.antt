@@ -14,8 +14,8 @@ use Rattle.obj_ops.specs.Acts.{act, look}
 use Rattle.obj_ops.specs.Stores.{Store, state_of, store_after}
 use Rattle.obj_ops.specs.declared.request.Acted.{Acted}
 use Rattle.obj_ops.specs.declared.request.Acted.TheVariants.{Fresh}
-use Rattle.script_lang.specs.declared.line.Line.{Line}
-use Rattle.script_lang.specs.declared.line.Line.TheVariants.{Op, Get}
+use Rattle.tier_tool.specs.declared.task.Task.{Task}
+use Rattle.tier_tool.specs.declared.task.Task.TheVariants.{Op, Get}
 use Rattle.store_face.specs.Tables.{Table}
 use Rattle.store_face.specs.Views.{StoreView, Sides, last, Now, Holds}
 use Rattle.store_face.specs.Calls.{Stays, Got}
@@ -51,7 +51,7 @@ now_itself None n e = tt
 now_itself (Some ss) n e = now_same (Some ss) n (λ s. s ≡ last ss) (sym e) refl
 
 -- what the plain store answers to a line that changes nothing, where the name has this state
-abbrev pub Unchanged : Line → NameState → Answer → Type 0
+abbrev pub Unchanged : Task → NameState → Answer → Type 0
 Unchanged line s a = (p : Plain) → s ≡ state_of p.store (name_of line) → (a ≡ answer p line) × (after p line ≡ p)
 
 same_unreadable : (t u : Table) → u ≡ t → SameUnreadable t u
@@ -63,7 +63,7 @@ no_act p q e = let same : q.acts ≡ p.acts = ap (λ (w : Plain). w.acts) e in o
 still_stands : (t u : Table) (p q : Plain) → StandsFor t p.store → u ≡ t → q ≡ p → StandsFor u q.store
 still_stands t u p q stands e f = subst (λ (w : Plain). StandsFor u w.store) (sym f) (subst (λ (w : Table). StandsFor w p.store) (sym e) stands)
 
-answered_same : (line : Line) (t : Table) (s : NameState) (a : Answer) (new : StoreView) → Has (name_of line) s t → Holds new (λ u. u ≡ t) → Unchanged line s a → IsAnswered line t new a false
+answered_same : (line : Task) (t : Table) (s : NameState) (a : Answer) (new : StoreView) → Has (name_of line) s t → Holds new (λ u. u ≡ t) → Unchanged line s a → IsAnswered line t new a false
 answered_same line t s a new has same plainly = record {
   readable = has_readable t (name_of line) s has;
   unreadable = now_weaker new.moments (λ n. n.before ≡ t) (λ n. SameUnreadable t n.before) (λ n. same_unreadable t n.before) same;
@@ -72,7 +72,7 @@ answered_same line t s a new has same plainly = record {
       (q.0, no_act p (after p line) q.1, now_weaker new.moments (λ n. n.before ≡ t) (λ n. StandsFor n.before (after p line).store) (λ n e. still_stands t n.before p (after p line) stands e q.1) same);
 }
 
-ends_same : (line : Line) (s : NameState) (a : Answer) (old new : StoreView) → Holds old (Has (name_of line) s) → Stays old new → old.live ≡ true → Unchanged line s a → LineEnds line old new (Ok (a, false))
+ends_same : (line : Task) (s : NameState) (a : Answer) (old new : StoreView) → Holds old (Has (name_of line) s) → Stays old new → old.live ≡ true → Unchanged line s a → LineEnds line old new (Ok (a, false))
 ends_same line s a old new has stays live plainly = (
   now_both old.moments (λ was. Has (name_of line) s was.before) (λ was. At new.moments (λ n. n ≡ was)) (λ was. IsAnswered line was.before new a false)
       (λ was h same. answered_same line was.before s a new h (now_weaker new.moments (λ n. n ≡ was) (λ n. n.before ≡ was.before) (λ n. ap (λ (w : Sides). w.before)) same) plainly)

@@ -12,8 +12,8 @@ use Rattle.store_face.specs.Tables.{Table}
 use Rattle.store_face.specs.Views.{Holds, Sides}
 use Rattle.log_store.specs.Commits.{need}
 use Rattle.log_store.specs.Views.{LogView, store_of}
-use Rattle.script_lang.specs.declared.line.Line.{Line}
-use Rattle.script_lang.specs.declared.line.Line.TheVariants.{Op, Get}
+use Rattle.tier_tool.specs.declared.task.Task.{Task}
+use Rattle.tier_tool.specs.declared.task.Task.TheVariants.{Op, Get}
 use Rattle.tier_tool.specs.Bases.{StandsFor, IsFresh}
 use Rattle.tier_tool.specs.Pools.{Found, Has}
 use Rattle.tier_tool.specs.Rooms.{change_of, cost, cost_of, HasRoom, LineUses, PutUses}
@@ -28,7 +28,7 @@ found_act : (req : Req) (s : NameState) (x : Acted) (t : Table) (store : Store) 
 found_act req s x t store is has stands = ap (λ (w : NameState). act w req) (sym (has_state t store req.name s has stands)) ∙ is
 
 -- a state was not found, and nothing changed
-pub not_found_uses : (name : List ℕ) (line : Line) (old new : LogView) (f : LineFault) → Found name (store_of old) (store_of new) (Err f) → new ≡ old → LineUses line old new (Err f)
+pub not_found_uses : (name : List ℕ) (line : Task) (old new : LogView) (f : LineFault) → Found name (store_of old) (store_of new) (Err f) → new ≡ old → LineUses line old new (Err f)
 not_found_uses name line old new (fault.NoSpace used more limit) found same = absurd found
 not_found_uses name line old new fault.BadRecord found same = ap (λ (v : LogView). v.used) same
 not_found_uses name line old new fault.Disk found same = tt

@@ -1,9 +1,9 @@
 -- How a run on the base ends, from how it was opened, what was told, and how it was closed.
 use Rattle.tier_outside.specs.Moments.{told}
-use Rattle.std.proofs.Common.{◌≡◌, inl, inr, ◌≤◌, ℕ, List, [], ◌∷◌, ◌++◌, Option, Some, None, refl, sym, ap, subst, ◌∙◌}
+use Rattle.std.proofs.Common.{◌≡◌, inl, inr, ◌≤◌, ℕ, List, [], ◌∷◌, ◌++◌, map, Option, Some, None, refl, sym, ap, subst, ◌∙◌}
 use Rattle.obj_model.specs.declared.change.Pool.TheVariants.{Base}
 use Rattle.obj_ops.specs.Stores.{Store}
-use Rattle.script_lang.specs.declared.line.Numbered.{Numbered}
+use Rattle.tier_tool.specs.declared.task.Numbered.{Numbered}
 use Rattle.script_lang.specs.Scripts.{IsScript}
 use Rattle.tier_outside.specs.Causes.{Rose}
 use Rattle.tier_outside.specs.Disk.{DiskMoment, EachImage, IsImage}
@@ -22,7 +22,9 @@ use Rattle.tier_tool.specs.Bases.{GoesOn, StandsFor}
 use Rattle.tier_tool.specs.Lines.{EndsAs, Ending, IsLeft, Said, SaysFrom, Standing, TellsLines, standing}
 use Rattle.tier_tool.specs.Lines.Ending.{Whole, Unheard, Stopped}
 use Rattle.tier_tool.specs.Main.{BackLeaves, Carries, IsReadWhole, RunEnds, SaidFrom}
-use Rattle.tier_tool.specs.Telling.{RunsOn, TellsUnopened}
+use Rattle.tier_tool.specs.Tasks.{as_line}
+use Rattle.script_lang.specs.declared.line.Numbered as script
+use Rattle.tier_tool.specs.Telling.{CarriesTasks, RunsOn, TellsUnopened}
 use Rattle.tier_tool.specs.Texts.{bad_image_text, wrong_pair_text}
 use Rattle.tier_tool.proofs.Told.{rose_later}
 use Rattle.tier_tool.proofs.Views.{now_same}
@@ -152,13 +154,25 @@ rose_as a b c d h same rose = subst (Rose a) (sym same) (rose_later a b c h rose
 
 -- ---- a script
 
+-- what tasks of a script do is what the script does
+tasks_carry : (script : List ℕ) (tasks : List Numbered) (room : ℕ) (disk_rose sink_rose : Type 0) (old new : DiskMoments) (put : List ℕ) (status : ℕ)
+    → IsScript script (map as_line tasks) → RunsOn tasks room disk_rose sink_rose old new put status
+    → Carries script room disk_rose sink_rose old new put status
+tasks_carry script tasks room disk_rose sink_rose old new put status is (inl lacks) = inl lacks
+tasks_carry script tasks room disk_rose sink_rose old new put status is (inr (inl failed)) = inr (inr (inr (inl failed)))
+tasks_carry script tasks room disk_rose sink_rose old new put status is (inr (inr (inl refuses))) = inr (inr (inr (inr (inl refuses))))
+tasks_carry script tasks room disk_rose sink_rose old new put status is (inr (inr (inr carries))) =
+    inr (inr (inr (inr (inr (record { lines = tasks; is_script = is; carried = carries })))))
+
 -- what lines of a script do is what the script does
-pub script_carries : (script : List ℕ) (lines : List Numbered) (room : ℕ) (disk_rose sink_rose : Type 0) (old new : DiskMoments) (put : List ℕ) (status : ℕ) → IsScript script lines
-    → RunsOn lines room disk_rose sink_rose old new put status → Carries script room disk_rose sink_rose old new put status
+pub script_carries : (script : List ℕ) (lines : List script.Numbered) (room : ℕ) (disk_rose sink_rose : Type 0) (old new : DiskMoments) (put : List ℕ) (status : ℕ)
+    → IsScript script lines → CarriesTasks lines room disk_rose sink_rose old new put status
+    → Carries script room disk_rose sink_rose old new put status
 script_carries script lines room disk_rose sink_rose old new put status is (inl lacks) = inl lacks
-script_carries script lines room disk_rose sink_rose old new put status is (inr (inl failed)) = inr (inr (inl failed))
-script_carries script lines room disk_rose sink_rose old new put status is (inr (inr (inl refuses))) = inr (inr (inr (inl refuses)))
-script_carries script lines room disk_rose sink_rose old new put status is (inr (inr (inr carries))) = inr (inr (inr (inr (record { lines = lines; is_script = is; carried = carries }))))
+script_carries script lines room disk_rose sink_rose old new put status is (inr (inl u)) =
+    inr (inr (inl (record { lines = lines; is_script = is; number = u.0; unbuilt = u.1; base_same = u.2; told = u.3 })))
+script_carries script lines room disk_rose sink_rose old new put status is (inr (inr runs)) =
+    tasks_carry script runs.0 room disk_rose sink_rose old new put status (subst (IsScript script) runs.1 is) runs.2
 
 -- a disk that was not touched
 pub untouched : (a : DiskMoments) → BackLeaves a a (OpeningStops Base 257)

@@ -4,9 +4,9 @@ use Rattle.std.proofs.lemmas.List.{append-nil, take-append-drop}
 use Rattle.std.specs.List.{concat}
 use Rattle.obj_model.specs.declared.memory.NoMemory.{NoMemory}
 use Rattle.obj_ops.specs.Stores.{Store}
-use Rattle.script_lang.specs.declared.line.Numbered.{Numbered}
+use Rattle.tier_tool.specs.declared.task.Numbered.{Numbered}
 use Rattle.tier_outside.specs.Causes.{Rose}
-use Rattle.script_lang.specs.declared.line.Line.{Line}
+use Rattle.tier_tool.specs.declared.task.Task.{Task}
 use Rattle.store_face.specs.Tables.{Table}
 use Rattle.store_face.specs.Views.{StoreView, Sides, Sound, Now, Holds, grown, last}
 use Rattle.store_face.specs.Calls.{Stays}
@@ -40,7 +40,7 @@ nothing_in_doubt n (Some ss) b same one =
     now_same (Some ss) b (InDoubt n.line (last ss).before) (sym same)
     (λ p stands. (inl stands, inl (subst (λ u. StandsFor u p.store) there stands)))
 
-answered_in_doubt : (line : Line) (t : Table) (b : Option (List Sides)) → At b (λ s. s.before ≡ s.after)
+answered_in_doubt : (line : Task) (t : Table) (b : Option (List Sides)) → At b (λ s. s.before ≡ s.after)
     → ((p : Plain) → StandsFor t p.store → At b (λ s. StandsFor s.before (after p line).store)) → At b (InDoubt line t)
 answered_in_doubt line t None one stands = tt
 answered_in_doubt line t (Some ss) one stands =

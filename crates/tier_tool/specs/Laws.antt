@@ -6,14 +6,14 @@ use Rattle.obj_ops.specs.Stores.{Store, replay}
 use Rattle.store_face.specs.Tables.{Table}
 use Rattle.log_image.specs.Images.{HoldsMap, Log}
 use Rattle.log_store.specs.Opens.{OpensAs}
-use Rattle.script_lang.specs.declared.line.Line.{Line}
-use Rattle.script_lang.specs.declared.line.Line.TheVariants.{Op, Get}
-use Rattle.script_lang.specs.declared.line.Numbered.{Numbered}
+use Rattle.tier_tool.specs.declared.task.Task.{Task}
+use Rattle.tier_tool.specs.declared.task.Task.TheVariants.{Op, Get}
+use Rattle.tier_tool.specs.declared.task.Numbered.{Numbered}
 use Rattle.tier_tool.specs.Bases.{StandsFor}
 use Rattle.tier_tool.specs.Plain.{Plain, after, answers, begun, plain}
 
 -- a request before others, where the line is one
-abbrev pub with_request : Line → List Req → List Req
+abbrev pub with_request : Task → List Req → List Req
 with_request (Op req) others = req ∷ others
 with_request (Get client name vector) others = others
 

@@ -5,7 +5,7 @@ use Rattle.store_face.specs.Tables.{Table}
 use Rattle.store_face.specs.Views.{StoreView, Now, Holds}
 use Rattle.log_store.specs.Views.{LogView, store_of}
 use Rattle.obj_ops.specs.Stores.{Store}
-use Rattle.script_lang.specs.declared.line.Numbered.{Numbered}
+use Rattle.tier_tool.specs.declared.task.Numbered.{Numbered}
 use Rattle.tier_tool.specs.Bases.{StandsFor, IsUnreadable, ActsOn, name_of}
 use Rattle.tier_tool.specs.Plain.{Plain, Answered, answered, after, begun}
 use Rattle.tier_tool.specs.Rooms.{HasRoom, cost}

@@ -11,8 +11,8 @@ use Rattle.rec_codec.specs.Spelling.{state_bytes}
 use Rattle.store_face.specs.Views.{Holds}
 use Rattle.log_store.specs.Commits.{need}
 use Rattle.log_store.specs.Views.{LogView, store_of}
-use Rattle.script_lang.specs.declared.line.Line.{Line}
-use Rattle.script_lang.specs.declared.line.Line.TheVariants.{Op, Get}
+use Rattle.tier_tool.specs.declared.task.Task.{Task}
+use Rattle.tier_tool.specs.declared.task.Task.TheVariants.{Op, Get}
 use Rattle.tier_tool.specs.Bases.{StandsFor, ActsOn, state_key}
 use Rattle.tier_tool.specs.declared.answer.Answer.{Answer}
 use Rattle.tier_tool.specs.declared.base.LineFault.{LineFault}
@@ -30,17 +30,17 @@ cost_of name (Stale kept) = 0
 cost_of name (Worn limit) = 0
 
 -- what a line takes of the room, over a plain store; a reading takes nothing
-abbrev pub cost : Store → Line → ℕ
+abbrev pub cost : Store → Task → ℕ
 cost store (Op req) = cost_of req.name (act (state_of store req.name) req)
 cost store (Get client name vector) = 0
 
 -- a line that acts has room
-abbrev pub HasRoom : (room used : ℕ) → Store → Line → Type 0
+abbrev pub HasRoom : (room used : ℕ) → Store → Task → Type 0
 HasRoom room used store line = ActsOn store line → used + cost store line ≤ room
 
 -- A line that is carried out had room where it acts, and takes its cost; it is refused for space exactly where it had none, with these
 -- numbers; and where nothing acted nothing was taken.
-abbrev pub LineUses : Line → LogView → LogView → Result (Answer × Bool) LineFault → Type 0
+abbrev pub LineUses : Task → LogView → LogView → Result (Answer × Bool) LineFault → Type 0
 LineUses line old new (Ok done) =
     Holds (store_of old) (λ t. (store : Store) → StandsFor t store → HasRoom old.room old.used store line × (new.used ≡ old.used + cost store line))
 LineUses line old new (Err (fault.NoSpace used more limit)) =
