@@ -1,5 +1,5 @@
 -- What single sub-operations do to an object, in small words.
-use Rattle.std.specs.Prelude.{ℕ, ◌+◌, ◌-◌, Bool, List, [], ◌∷◌, ◌++◌, length, map, take, drop, replicate, Option, Some, None, is_none, Result, Ok, Err, if◌then◌else◌, nat_lt, nat_le, ◌==◌, ◌&&◌, bytes_eq}
+use Rattle.std.specs.Prelude.{ℕ, ◌+◌, ◌-◌, min, Bool, List, [], ◌∷◌, ◌++◌, length, map, take, drop, replicate, Option, Some, None, is_none, Result, Ok, Err, if◌then◌else◌, nat_lt, nat_le, ◌==◌, ◌&&◌, bytes_eq}
 use Rattle.std.specs.FinMap as fin
 use Rattle.obj_model.specs.Limits.{body_limit, attrs_limit, omap_limit, value_limit}
 use Rattle.obj_model.specs.Tables.{Table, entries_above}
@@ -8,7 +8,7 @@ use Rattle.obj_model.specs.declared.reply.Why.{Why}
 use Rattle.obj_model.specs.declared.reply.Why.TheVariants.{Exists, NoEnt, NoData, Canceled, Range, Overflow, TooBig}
 use Rattle.obj_model.specs.declared.out.Pair.{Pair}
 use Rattle.obj_model.specs.declared.out.Out.{Out}
-use Rattle.obj_model.specs.declared.out.Out.TheVariants.{Checked, Bytes, Size, Names, Pairs}
+use Rattle.obj_model.specs.declared.out.Out.TheVariants.{Checked, Bytes}
 
 -- the object that is left, if one is, or why not
 abbrev pub Change : Type 0
@@ -63,9 +63,9 @@ abbrev pub written : ℕ → List ℕ → List ℕ → List ℕ
 written off [] body = body
 written off (b ∷ bytes) body = resized off body ++ (b ∷ bytes) ++ drop (off + length (b ∷ bytes)) body
 
--- a body whose bytes from `off` to `off + len` are zero
+-- a body whose bytes from `off` to `off + len` are zero, as many as it has there
 abbrev pub zeroed : ℕ → ℕ → List ℕ → List ℕ
-zeroed off len body = take off body ++ map (λ b. 0) (take len (drop off body)) ++ drop (off + len) body
+zeroed off len body = take off body ++ replicate (min len (length body - off)) 0 ++ drop (off + len) body
 
 -- the object with this body
 abbrev pub put_body : List ℕ → Obj → Change

@@ -10,12 +10,7 @@ use obj_model::{ATTRS_LIMIT, Bytes, KeyList, Name, NoMemory, Obj, Out, Why};
 use std::alloc::Global;
 
 // Gives an attribute this value, and makes the object where it is absent.
-pub fn set(
-    alloc: Global,
-    key: &Name,
-    bytes: &Bytes,
-    obj: Option<Obj>,
-) -> Result<Change, NoMemory>
+pub fn set(alloc: Global, key: &Name, bytes: &Bytes, obj: Option<Obj>) -> Result<Change, NoMemory>
     ensures { IfOk result (λ r. r ≡ with_attr key.now bytes.now (made obj)) }
 {
     let Obj { body, attrs, omap } = or_empty(alloc, obj);

@@ -1,5 +1,5 @@
 //! The sub-operations on a body, each of which changes it where it lies.
-ghost use Rattle.std.specs.Prelude.{◌≡◌, ◌≤◌, ◌+◌, IfOk, length};
+ghost use Rattle.std.specs.Prelude.{◌≡◌, ◌≤◌, ◌+◌, IfOk, length, replicate};
 ghost use Rattle.obj_model.specs.Limits.{body_limit, number_limit};
 ghost use Rattle.obj_ops.specs.Effects.{made, resized, where_any, with_body, with_bytes, with_more, with_size, with_zeros, written, zeroed};
 
@@ -25,12 +25,7 @@ pub fn write_full(alloc: Global, bytes: &Bytes, obj: Option<Obj>) -> Result<Chan
 }
 
 // Puts the bytes into the body, which is made where it is absent.
-pub fn write(
-    alloc: Global,
-    off: u64,
-    bytes: &Bytes,
-    obj: Option<Obj>,
-) -> Result<Change, NoMemory>
+pub fn write(alloc: Global, off: u64, bytes: &Bytes, obj: Option<Obj>) -> Result<Change, NoMemory>
     requires { off ≤ number_limit }
     ensures { IfOk result (λ r. r ≡ with_bytes off bytes.now (made obj)) }
 {
@@ -98,8 +93,15 @@ fn clear(body: Vec<u8>, off: u64, len: u64) -> Vec<u8>
     let size = body.len() as u64;
     let from = off.min(size);
     let to = from + len.min(size - from);
-    body.as_mut_slice()[from as usize..to as usize].fill(0);
+    fill(&mut body.as_mut_slice()[from as usize..to as usize]);
     body
+}
+
+// Makes all bytes zero.
+fn fill(bytes: &mut [u8])
+    ensures { bytes.new ≡ replicate (length bytes.old) 0 }
+{
+    bytes.fill(0);
 }
 
 // Cuts the body to a size or fills it up with zeros, where there is one.

@@ -11,12 +11,7 @@ use obj_model::{Bytes, Name, NoMemory, OMAP_LIMIT, Obj, Out, Pair, PairList, Pai
 use std::alloc::Global;
 
 // Gives an entry this value, and makes the object where it is absent.
-pub fn set(
-    alloc: Global,
-    key: &Name,
-    bytes: &Bytes,
-    obj: Option<Obj>,
-) -> Result<Change, NoMemory>
+pub fn set(alloc: Global, key: &Name, bytes: &Bytes, obj: Option<Obj>) -> Result<Change, NoMemory>
     ensures { IfOk result (λ r. r ≡ with_entry key.now bytes.now (made obj)) }
 {
     let Obj { body, attrs, omap } = or_empty(alloc, obj);
