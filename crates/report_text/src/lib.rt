@@ -1,0 +1,21 @@
+//! The texts of what is told: answers of lines, acts, the summary of a run, and the rows of both
+//! pools.
+//!
+//! Each text is put into a buffer that the caller reuses, and is exactly that of its definition
+//! (`specs/`).
+#![tactic(auto)]
+
+mod answers;
+mod counts;
+mod lines;
+mod rows;
+mod text;
+mod told;
+mod words;
+
+pub use answers::put_answer;
+pub use counts::{Class, Counts, put_summary};
+pub use lines::{answer_text, put_act};
+pub use rows::{put_base_row, put_cache_row};
+pub use text::Text;
+pub use told::Told;

@@ -1,0 +1,9 @@
+pub mod Logs
+pub mod Calls
+pub mod Places
+pub mod Legal
+pub mod Shapes
+pub mod Fits
+pub mod Weights
+pub mod Laws
+pub mod Steps
