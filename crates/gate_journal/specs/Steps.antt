@@ -1,10 +1,10 @@
 -- The steps of which the journal's calls are made.
-use Rattle.std.specs.Prelude.{◌≡◌, ◌⊎◌, ℕ, ◌+◌, ◌<◌, ◌≤◌, List, [], ◌∷◌, length, take, slice_index, Option, None, Some, Result, Ok, Err}
+use Rattle.std.specs.Prelude.{◌≡◌, ◌⊎◌, ℕ, ◌+◌, ◌-◌, ◌<◌, ◌≤◌, List, [], ◌∷◌, length, take, drop, slice_index, Option, None, Some, Result, Ok, Err}
 use Rattle.store_face.specs.declared.fault.StoreFault.{StoreFault}
 use Rattle.store_face.specs.declared.fault.StoreFault.TheVariants.{Disk, BadImage, NoSpace, Worn, NoMemory}
 use Rattle.tier_outside.specs.Disk.{Draft, IsImage, settled, written}
 use Rattle.tier_outside.specs.Moments.{Now}
-use Rattle.gate_journal.specs.Journals.{IsRecord, IsClosed, IsBroken, size_at}
+use Rattle.gate_journal.specs.Journals.{IsRecord, IsClosed, IsBroken, behind_gate, size_at}
 use Rattle.gate_journal.specs.Stands.{StopsIn}
 
 -- these bytes are written behind a gate
@@ -58,3 +58,11 @@ RecordRead gate limit moments failed (Err Disk) = failed
 RecordRead gate limit moments failed (Err NoMemory) = Unit {0}
 RecordRead gate limit moments failed (Err (NoSpace u n l)) = ⊥
 RecordRead gate limit moments failed (Err (Worn l)) = ⊥
+
+-- the payload of what is written behind a gate
+abbrev pub payload_of : List ℕ → List ℕ
+payload_of body = take (length body - 5) (drop 4 body)
+
+-- the bytes are all that is written behind the gate of a payload
+pub record IsBody (body : List ℕ) : Type 0 where
+  pub is : body ≡ behind_gate (payload_of body)

@@ -10,7 +10,8 @@ mod reading;
 mod record;
 mod step;
 
-pub use adding::{append, start};
+pub use adding::{add, append, start};
 pub use journal::Journal;
 pub use reading::walk;
+pub use record::Record;
 pub use step::put;

@@ -4,6 +4,7 @@ use Rattle.byteorder.specs.Endian.{big_bytes, big_number}
 use Rattle.obj_model.specs.declared.change.Change.{Change}
 use Rattle.obj_model.specs.declared.change.Pool.{Pool}
 use Rattle.gate_journal.specs.Journals.{AreRecords, Spells, Means, Broken}
+use Rattle.store_face.specs.Limits.{store_limit}
 use Rattle.rec_codec.specs.Spelling.{SpellsTxn}
 use Rattle.log_image.specs.Images.{IsEmpty, IsHalfOpen, AreTxns, role_byte}
 use Rattle.log_image.specs.declared.front.Front.{Front}
@@ -57,15 +58,15 @@ pub record HasNoTxn (image : List ℕ) (at : ℕ) : Type 0 where
   pub txns : List (List Change)
   pub gate : ℕ
   pub next : ℕ
-  pub spelled : Spells 0 (2 ^ 40) image (first ∷ (before ++ payload ∷ behind)) next
+  pub spelled : Spells 0 store_limit image (first ∷ (before ++ payload ∷ behind)) next
   pub each : AreTxns before txns
-  pub place : AreRecords (take (2 ^ 40) image) 0 (first ∷ before) gate
+  pub place : AreRecords (take store_limit image) 0 (first ∷ before) gate
   pub at_is : at ≡ gate + 5
   pub none : (txn : List Change) → ¬ SpellsTxn payload txn
 
 -- the bytes of a disk whose head passes are no log: they are no journal, or else a record behind the first is no transaction
 abbrev pub IsNoLog : List ℕ → ℕ → Type 0
-IsNoLog image at = Means 0 (2 ^ 40) image (Broken at) ⊎ HasNoTxn image at
+IsNoLog image at = Means 0 store_limit image (Broken at) ⊎ HasNoTxn image at
 
 -- a disk is refused as no log of this pool and pair, at this place
 abbrev pub IsBad : Pool → ℕ → List ℕ → ℕ → Type 0

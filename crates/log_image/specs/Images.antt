@@ -5,7 +5,10 @@ use Rattle.byteorder.specs.Endian.{big_bytes}
 use Rattle.obj_model.specs.declared.change.Change.{Change}
 use Rattle.obj_model.specs.declared.change.Pool.{Pool}
 use Rattle.obj_model.specs.declared.change.Pool.TheVariants.{Cache, Base}
+use Rattle.store_face.specs.Limits.{store_limit}
 use Rattle.store_face.specs.Tables.{Table, changed_by}
+use Rattle.store_face.specs.Views.{Durable}
+use Rattle.store_face.specs.Views.{Durable}
 use Rattle.rec_codec.specs.Spelling.{SpellsTxn}
 use Rattle.gate_journal.specs.Journals.{Spells, behind_gate}
 
@@ -49,22 +52,18 @@ abbrev pub made_by : Table → List (List Change) → Table
 made_by t [] = t
 made_by t (txn ∷ txns) = made_by (changed_by t txn) txns
 
--- a map, and the offset behind the last gate of the log that holds it
-pub record Log : Type 0 where
-  pub table : Table
-  pub used : ℕ
-
--- a log without transactions
-abbrev pub no_txns : Log
+-- what a log without transactions holds: the empty map, and the offset behind its last gate
+abbrev pub no_txns : Durable
 no_txns = record { table = fin.empty; used = 23 }
 
--- The bytes hold a log: the first record with an open gate, records of transactions with open gates, a gate that is not open, all
--- within the first 2^40 bytes, and then anything. The map is what the transactions make of the empty one.
-pub record HoldsLog (role : Pool) (pair : ℕ) (image : List ℕ) (log : Log) : Type 0 where
+-- The bytes hold a log: the first record with an open gate, records of transactions with open gates,
+-- a gate that is not open, all within the most bytes of a log, and then anything. The map is what the
+-- transactions make of the empty one, and used is the offset behind the last gate.
+pub record HoldsLog (role : Pool) (pair : ℕ) (image : List ℕ) (log : Durable) : Type 0 where
   pub payloads : List (List ℕ)
   pub txns : List (List Change)
   pub next : ℕ
-  pub spelled : Spells 0 (2 ^ 40) image (head role pair ∷ payloads) next
+  pub spelled : Spells 0 store_limit image (head role pair ∷ payloads) next
   pub each : AreTxns payloads txns
   pub made : log.table ≡ made_by fin.empty txns
   pub used_is : log.used ≡ next + 1

@@ -9,7 +9,7 @@ ghost use Rattle.log_image.specs.Fronts.{IsUnwritten};
 ghost use Rattle.log_image.specs.Standing.{BlankOrNew, IsSettled, LogStands, first_journal};
 ghost use Rattle.log_image.specs.Steps.{IsZeroed, RestStands};
 
-use crate::head::{CLOSED, OPEN, role_byte};
+use crate::head::{CLOSED, LOG_LIMIT, OPEN, role_byte};
 use byteorder::{BigEndian, ByteOrder};
 use gate_journal::{Journal, put};
 use obj_model::Pool;
@@ -86,7 +86,7 @@ fn open_first<D: Disk>(disk: &mut D, role: Pool, pair: u64) -> Result<Journal, D
     Ok(Journal {
         start: 0,
         next: 22,
-        end: 1 << 40,
+        end: LOG_LIMIT,
     })
 }
 

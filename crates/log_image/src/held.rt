@@ -5,6 +5,7 @@ ghost use Rattle.tier_outside.specs.Moments.{Now};
 ghost use Rattle.log_image.specs.Calls.{ReadEnds};
 ghost use Rattle.log_image.specs.Rebuilding.{RebuildEnds, ReplayEnds, told};
 
+use crate::head::LOG_LIMIT;
 use gate_journal::{Journal, walk};
 use obj_model::{Bytes, Items};
 use pool_map::PoolMap;
@@ -12,9 +13,6 @@ use rec_codec::read_txn;
 use std::alloc::Global;
 use store_face::StoreFault;
 use tier_outside::Disk;
-
-// The end of a log's journal.
-const LOG_END: u64 = 1 << 40;
 
 // The bytes of a record in front of its payload: its gate and its length.
 const RECORD_HEAD: u64 = 5;
@@ -70,7 +68,7 @@ pub fn read<D: Disk>(alloc: Global, disk: &mut D) -> Result<(Journal, PoolMap), 
     ensures same { D.moments disk.new ≡ D.moments disk.old }
     ensures later { D.faults disk.old ≤ D.faults disk.new }
 {
-    let (journal, payloads) = walk(alloc, disk, 0, LOG_END)?;
+    let (journal, payloads) = walk(alloc, disk, 0, LOG_LIMIT)?;
     let map = rebuild(alloc, payloads)?;
     Ok((journal, map))
 }

@@ -13,7 +13,8 @@ use Rattle.store_face.specs.declared.fault.StoreFault.{StoreFault}
 use Rattle.store_face.specs.declared.fault.StoreFault.TheVariants as store
 use Rattle.log_image.specs.Calls.{Held, ReadEnds}
 use Rattle.log_image.specs.Fronts.{FrontIs, IsBad, IsHeaded, IsMisheaded, IsNoLog, IsOf, IsUnwritten}
-use Rattle.log_image.specs.Images.{HoldsLog, IsBlank, IsHalfOpen, Log}
+use Rattle.store_face.specs.Views.{Durable}
+use Rattle.log_image.specs.Images.{HoldsLog, IsBlank, IsHalfOpen}
 use Rattle.log_image.specs.Standing.{BlankOrNew, IsSettled, LogStands}
 use Rattle.log_image.specs.declared.front.Front.TheVariants.{Blank, HalfOpen, Bad, Headed}
 use Rattle.log_image.proofs.Heads.{head_passes}
@@ -112,7 +113,7 @@ of_other role found a b left back front =
 -- ---- what holds no log of the pool and pair
 
 abbrev pub HoldsNone : Pool → ℕ → List ℕ → Type 0
-HoldsNone role pair image = (log : Log) → ¬ HoldsLog role pair image log
+HoldsNone role pair image = (log : Durable) → ¬ HoldsLog role pair image log
 
 pub none_blank : (role : Pool) (pair : ℕ) (a b : Option (List Draft)) → pair < 2 ^ 64 → Leaves a b IsImage → Then a b Restarts → Now b (λ d. IsBlank role pair d.content)
     → Left a (HoldsNone role pair)

@@ -16,7 +16,8 @@ use Rattle.store_face.specs.Tables.{Table}
 use Rattle.store_face.specs.Calls.{Among, IsOneOf, Reopened}
 use Rattle.store_face.specs.Views.{Sides, StoreView, one_map}
 use Rattle.store_face.specs.Views as store
-use Rattle.log_image.specs.Images.{HoldsLog, Log}
+use Rattle.store_face.specs.Views.{Durable}
+use Rattle.log_image.specs.Images.{HoldsLog}
 use Rattle.log_image.specs.Standing.{IsLogJournal, LogStands}
 use Rattle.log_image.proofs.LogLaws.{one_log}
 use Rattle.log_store.specs.Inner.{IsWhole}
@@ -74,9 +75,9 @@ among_none a b past past2 live live2 f f2 left same =
 one_of : (role : Pool) (pair : ℕ) (image : List ℕ) (s : Sides) (t : Table) (used : ℕ) → HoldsLog role pair image (record { table = t; used = used }) → HoldsSide role pair s image
     → (t ≡ s.before) ⊎ (t ≡ s.after)
 one_of role pair image s t used log (inl before) =
-    inl (ap (λ (l : Log). l.table) (one_log role pair image (record { table = t; used = used }) (record { table = s.before; used = before.0 }) log before.1))
+    inl (ap (λ (l : Durable). l.table) (one_log role pair image (record { table = t; used = used }) (record { table = s.before; used = before.0 }) log before.1))
 one_of role pair image s t used log (inr after) =
-    inr (ap (λ (l : Log). l.table) (one_log role pair image (record { table = t; used = used }) (record { table = s.after; used = after.0 }) log after.1))
+    inr (ap (λ (l : Durable). l.table) (one_log role pair image (record { table = t; used = used }) (record { table = s.after; used = after.0 }) log after.1))
 
 -- the map that was read
 among_one : (role : Pool) (pair : ℕ) (a b : Option (List Draft)) (past past2 : List Sides) (t : Table) (used : ℕ) (live live2 : Bool) (f f2 : ℕ) → Leaves a b IsImage
@@ -108,7 +109,7 @@ reopened old role pair a b past past2 t used live f f2 is left pushed holds read
     now (Some es) = ap (λ (s : Sides). s.before) here ∙ sym (ap (λ (s : Sides). s.after) here)
 
 -- where the disk tells, what it left was a log
-always_log : (role : Pool) (pair : ℕ) (a : Option (List Draft)) (s : Sides) → HoldsSides role pair a s → Left a (λ image. (log : Log) → ¬ HoldsLog role pair image log) → a ≡ None
+always_log : (role : Pool) (pair : ℕ) (a : Option (List Draft)) (s : Sides) → HoldsSides role pair a s → Left a (λ image. (log : Durable) → ¬ HoldsLog role pair image log) → a ≡ None
 always_log role pair None s holds none = refl
 always_log role pair (Some ds) s holds none = absurd (elim (holds none.0 none.1) [
   | inl before ↦ none.2 (record { table = s.before; used = before.0 }) before.1

@@ -8,7 +8,8 @@ use Rattle.store_face.specs.declared.fault.StoreFault.{StoreFault}
 use Rattle.store_face.specs.declared.fault.StoreFault.TheVariants as store
 use Rattle.store_face.specs.Tables.{Table}
 use Rattle.store_face.specs.Views.{one_map}
-use Rattle.log_image.specs.Images.{HoldsLog, IsBlank, IsEmpty, Log, no_txns}
+use Rattle.store_face.specs.Views.{Durable}
+use Rattle.log_image.specs.Images.{HoldsLog, IsBlank, IsEmpty, no_txns}
 use Rattle.log_image.specs.Fronts.{IsBad, IsHeaded, IsMisheaded, IsOf}
 use Rattle.log_store.specs.Views.{LogView, told}
 use Rattle.log_store.specs.declared.fault.AttachFault.{AttachFault}
@@ -21,7 +22,7 @@ abbrev pub Left : Option (List Draft) → (List ℕ → Type 0) → Type 0
 Left moments P = Now moments (λ d. (image : List ℕ) × IsImage d image × P image)
 
 -- an image is opened as this log: it is blank for the pair, and then the log is new, or it holds the log
-abbrev pub OpensAs : Pool → ℕ → Log → List ℕ → Type 0
+abbrev pub OpensAs : Pool → ℕ → Durable → List ℕ → Type 0
 OpensAs role pair log image = (IsBlank role pair image × (log ≡ no_txns)) ⊎ HoldsLog role pair image log
 
 -- What a stop may leave while a store is opened: what a stop might leave before; or, where such an image was blank, one that is still
@@ -67,7 +68,7 @@ PeekEnds role moments failed (Err fault.NoMemory) = ⊥
 -- Why a log was not read anew: the disk failed, or what a stop left of it holds no log of the pool and pair.
 abbrev pub NotReread : Pool → ℕ → Option (List Draft) → (failed : Type 0) → StoreFault → Type 0
 NotReread role pair moments failed store.Disk = failed
-NotReread role pair moments failed (store.BadImage at) = Left moments (λ image. (log : Log) → ¬ HoldsLog role pair image log)
+NotReread role pair moments failed (store.BadImage at) = Left moments (λ image. (log : Durable) → ¬ HoldsLog role pair image log)
 NotReread role pair moments failed store.NoMemory = Unit {0}
 NotReread role pair moments failed (store.NoSpace used need limit) = ⊥
 NotReread role pair moments failed (store.Worn limit) = ⊥
