@@ -1,4 +1,5 @@
-use Rattle.std.proofs.Common.{arith}
+use Rattle.std.proofs.Common.{arith, ap, length}
+use Rattle.gate_journal.proofs.Records.{length_behind}
 use Rattle.gate_journal.proofs.Calls.{append_moments, append_outside, append_written, append_stands, append_standing}
 use Rattle.gate_journal.proofs.adding.add.Goals as goal
 
@@ -24,9 +25,9 @@ returns-clause-written g c =
 
 pub returns-clause-stands : goal.returns-clause-stands
 returns-clause-stands g c =
-    append_stands c.args.journal.now _ c.args.more c.bytes-body.result.now _ _ c.bytes-body.ensures c.requires.size (omega arith) c.in_ok-add_record.ensures.done
+    append_stands c.args.journal.now _ c.args.more c.bytes-body.result.now _ _ c.bytes-body.ensures c.requires.size (omega (arith, ap length c.bytes-body.ensures, length_behind c.args.more)) c.in_ok-add_record.ensures.done
 
 pub returns-clause-standing : goal.returns-clause-standing
 returns-clause-standing g c =
     append_standing c.args.journal.now _ c.args.more _ _ _ c.requires.standing c.in_ok-add_record.ensures.any_moment
-    (append_stands c.args.journal.now _ c.args.more c.bytes-body.result.now _ _ c.bytes-body.ensures c.requires.size (omega arith) c.in_ok-add_record.ensures.done)
+    (append_stands c.args.journal.now _ c.args.more c.bytes-body.result.now _ _ c.bytes-body.ensures c.requires.size (omega (arith, ap length c.bytes-body.ensures, length_behind c.args.more)) c.in_ok-add_record.ensures.done)
