@@ -3,18 +3,18 @@ use Rattle.std.specs.Prelude.{◌≡◌, ◌≢◌, ◌≤◌, ◌<◌, ◌+◌,
 use Rattle.std.proofs.Common.{ap, ap₂, ◌∙◌, sym, subst, inl, inr, arith}
 use Rattle.std.proofs.lemmas.Bool.Decides.{nat_tests}
 use Rattle.std.proofs.lemmas.List.{append_assoc, length-append, take-append-drop, take_at, drop_at, drop_more}
-use Rattle.tier_outside.specs.Disk.{Draft, FrontStands, IsImage, SameOutside, Syncs, Writes, settled, written}
-use Rattle.tier_outside.specs.Moments.{Goes, Now, Since, Then}
+use Rattle.tier_outside.specs.Disk.{DiskMoment, FrontStands, IsImage, SameOutside, Syncs, Writes, settled, written}
+use Rattle.tier_outside.specs.DiskMoments.{Goes, Now, Since, Then}
 use Rattle.tier_outside.proofs.DiskImages.{front_image, inside_image, settled_front, settled_only, write_front, write_stable, written_after, written_inside, written_there}
-use Rattle.tier_outside.proofs.Moments.{now_call, now_done, now_weaker, since_call, since_start, since_step, since_sync}
+use Rattle.tier_outside.proofs.DiskMoments.{now_call, now_done, now_weaker, since_call, since_start, since_step, since_sync}
 use Rattle.disk_laws.specs.Records.{OldOrNew, Spells, Stands, StandsBefore, records}
 
 -- the records and their closed gate are settled, and stand
-pub record Fronted (payloads : List (List ℕ)) (at : ℕ) (d : Draft) : Type 0 where
+pub record Fronted (payloads : List (List ℕ)) (at : ℕ) (d : DiskMoment) : Type 0 where
   pub stands : FrontStands (at + 1) d
   pub is : take (at + 1) d.stable ≡ records payloads ++ 0 ∷ []
 
-pub fronted_start : (payloads : List (List ℕ)) (at : ℕ) (d : Draft) → Stands payloads at d → Fronted payloads at d
+pub fronted_start : (payloads : List (List ℕ)) (at : ℕ) (d : DiskMoment) → Stands payloads at d → Fronted payloads at d
 fronted_start payloads at d s = subst (Fronted payloads at) (sym s.whole) record {
   stands = settled_front (at + 1) d.content long;
   is = ap (take (at + 1)) split ∙ take_at (records payloads ++ 0 ∷ []) s.rest (at + 1) (length-append (records payloads) (0 ∷ []) ∙ ap (λ n. n + 1) s.place);
@@ -26,14 +26,14 @@ fronted_start payloads at d s = subst (Fronted payloads at) (sym s.whole) record
     long : at + 1 ≤ length d.content
     long = omega (arith, ap length split, length-append (records payloads ++ 0 ∷ []) s.rest, length-append (records payloads) (0 ∷ []), s.place)
 
-pub fronted_write : (payloads : List (List ℕ)) (at off count : ℕ) (d e : Draft) → at + 1 ≤ off → Fronted payloads at d → Writes off count d e → Fronted payloads at e
+pub fronted_write : (payloads : List (List ℕ)) (at off count : ℕ) (d e : DiskMoment) → at + 1 ≤ off → Fronted payloads at d → Writes off count d e → Fronted payloads at e
 fronted_write payloads at off count d e behind was wrote = record {
   stands = write_front (at + 1) off count d e was.stands behind wrote;
   is = ap (take (at + 1)) (write_stable off count d e wrote) ∙ was.is;
 }
 
 -- a stop leaves the old payloads
-pub fronted_image : (payloads : List (List ℕ)) (at : ℕ) (d : Draft) (image : List ℕ) → Fronted payloads at d → IsImage d image → Spells payloads image
+pub fronted_image : (payloads : List (List ℕ)) (at : ℕ) (d : DiskMoment) (image : List ℕ) → Fronted payloads at d → IsImage d image → Spells payloads image
 fronted_image payloads at d image was is = record {
   gate = 0;
   rest = drop (at + 1) image;
@@ -44,7 +44,7 @@ fronted_image payloads at d image was is = record {
 }
 
 -- one write behind the gate
-pub behind : (payloads : List (List ℕ)) (at off count : ℕ) (a b c : Option (List Draft)) → at + 1 ≤ off
+pub behind : (payloads : List (List ℕ)) (at off count : ℕ) (a b c : Option (List DiskMoment)) → at + 1 ≤ off
     → Now b (Fronted payloads at) → Since a b (Spells payloads) → Goes (Writes off count) b c
     → Now c (Fronted payloads at) × Since a c (Spells payloads)
 behind payloads at off count a b c far was since goes = (
@@ -54,11 +54,11 @@ behind payloads at off count a b c far was since goes = (
 )
 
 -- nothing was called yet
-pub begun : (payloads : List (List ℕ)) (at : ℕ) (a : Option (List Draft)) → Now a (Stands payloads at) → Now a (Fronted payloads at) × Since a a (Spells payloads)
+pub begun : (payloads : List (List ℕ)) (at : ℕ) (a : Option (List DiskMoment)) → Now a (Stands payloads at) → Now a (Fronted payloads at) × Since a a (Spells payloads)
 begun payloads at a stands = (now_weaker a (Stands payloads at) (Fronted payloads at) (fronted_start payloads at) stands, since_start a (Spells payloads))
 
 -- the sync behind the writes
-pub settles : (payloads : List (List ℕ)) (at : ℕ) (a b c : Option (List Draft))
+pub settles : (payloads : List (List ℕ)) (at : ℕ) (a b c : Option (List DiskMoment))
     → Now a (Stands payloads at) → Now b (λ d. IsImage d d.content) → Since a b (Spells payloads) → Goes Syncs b c → Since a c (Spells payloads)
 settles payloads at a b c stands reads since goes =
     since_sync a b c (Spells payloads)
@@ -66,14 +66,14 @@ settles payloads at a b c stands reads since goes =
     since reads goes
 
 -- what the disk reads as begins with some bytes, up to an offset, and a fact is known
-pub record Begins (fact : Type 0) (front : List ℕ) (off : ℕ) (d : Draft) : Type 0 where
+pub record Begins (fact : Type 0) (front : List ℕ) (off : ℕ) (d : DiskMoment) : Type 0 where
   pub rest : List ℕ
   pub is : d.content ≡ front ++ rest
   pub long : length front ≡ off
   pub known : fact
 
 -- a write behind the bytes it begins with
-pub lengthens : (fact : Type 0) (off count next : ℕ) (front bytes : List ℕ) (a b : Option (List Draft)) → next ≡ off + length bytes → Now a (Begins fact front off)
+pub lengthens : (fact : Type 0) (off count next : ℕ) (front bytes : List ℕ) (a b : Option (List DiskMoment)) → next ≡ off + length bytes → Now a (Begins fact front off)
     → Goes (Writes off count) a b → Then a b (λ d e. e.content ≡ written off bytes d.content) → Now b (Begins fact (front ++ bytes) next)
 lengthens fact off count next front bytes a b further was goes done =
     now_done (Writes off count) (λ d e. e.content ≡ written off bytes d.content) a b (Begins fact front off) (Begins fact (front ++ bytes) next) goes done was
@@ -85,7 +85,7 @@ lengthens fact off count next front bytes a b further was goes done =
     })
 
 -- three writes behind the gate and a sync
-pub all_written : (payloads : List (List ℕ)) (payload : List ℕ) (at : ℕ) (a b c d e : Option (List Draft))
+pub all_written : (payloads : List (List ℕ)) (payload : List ℕ) (at : ℕ) (a b c d e : Option (List DiskMoment))
     → Now a (Stands payloads at)
     → Goes (Writes (at + 1) 1) a b → Then a b (λ x y. y.content ≡ written (at + 1) (length payload ∷ []) x.content)
     → Goes (Writes (at + 2) (length payload)) b c → Then b c (λ x y. y.content ≡ written (at + 2) payload x.content)
@@ -132,7 +132,7 @@ all_written payloads payload at a b c d e stands goes1 done1 goes2 done2 goes3 d
     regroup rest = simp append_assoc
 
 -- the same, by a number that is the payload's length
-pub all_written_at : (payloads : List (List ℕ)) (payload : List ℕ) (at size : ℕ) (a b c d e : Option (List Draft)) → size ≡ length payload
+pub all_written_at : (payloads : List (List ℕ)) (payload : List ℕ) (at size : ℕ) (a b c d e : Option (List DiskMoment)) → size ≡ length payload
     → Now a (Stands payloads at)
     → Goes (Writes (at + 1) 1) a b
     → Goes (Writes (at + 2) (length payload)) b c → Then b c (λ x y. y.content ≡ written (at + 2) payload x.content)
@@ -193,13 +193,13 @@ gate_decides payloads payload rest image gate is = by_test (nat_eq gate 1) refl
         not_one : nat_eq gate 1 ≡ false → gate ≢ 1
         not_one test = grind (arith, nat_tests)
 
-pub before_within : (payloads : List (List ℕ)) (payload : List ℕ) (at : ℕ) (d : Draft) → StandsBefore payloads payload at d → at + 1 ≤ length d.content
+pub before_within : (payloads : List (List ℕ)) (payload : List ℕ) (at : ℕ) (d : DiskMoment) → StandsBefore payloads payload at d → at + 1 ≤ length d.content
 before_within payloads payload at d s =
     let long = ap length s.is ∙ length-append (records payloads) (0 ∷ (length payload ∷ payload ++ 0 ∷ s.rest)) in
     omega (arith, long, s.place)
 
 -- a stop in the write of the gate
-pub opens_image : (payloads : List (List ℕ)) (payload : List ℕ) (at : ℕ) (d e : Draft) (image : List ℕ)
+pub opens_image : (payloads : List (List ℕ)) (payload : List ℕ) (at : ℕ) (d e : DiskMoment) (image : List ℕ)
     → StandsBefore payloads payload at d → Writes at 1 d e → IsImage e image → OldOrNew payloads payload image
 opens_image payloads payload at d e image s wrote is =
     gate_decides payloads payload s.rest image (slice_index image at)
@@ -207,17 +207,17 @@ opens_image payloads payload at d e image s wrote is =
     (inside_image at 1 d e image s.whole (before_within payloads payload at d s) wrote is))
 
 -- a stop before it
-pub before_image : (payloads : List (List ℕ)) (payload : List ℕ) (at : ℕ) (d : Draft) (image : List ℕ) → StandsBefore payloads payload at d → IsImage d image → OldOrNew payloads payload image
+pub before_image : (payloads : List (List ℕ)) (payload : List ℕ) (at : ℕ) (d : DiskMoment) (image : List ℕ) → StandsBefore payloads payload at d → IsImage d image → OldOrNew payloads payload image
 before_image payloads payload at d image s is =
     gate_decides payloads payload s.rest image 0 (settled_only d.content image (subst (λ x. IsImage x image) s.whole is) ∙ s.is)
 
-pub opening : (payloads : List (List ℕ)) (payload : List ℕ) (at : ℕ) (a b : Option (List Draft))
+pub opening : (payloads : List (List ℕ)) (payload : List ℕ) (at : ℕ) (a b : Option (List DiskMoment))
     → Now a (StandsBefore payloads payload at) → Goes (Writes at 1) a b → Since a b (OldOrNew payloads payload)
 opening payloads payload at a b stands goes =
     since_call (Writes at 1) a b (OldOrNew payloads payload) goes
     (now_weaker a (StandsBefore payloads payload at) _ (λ d s e wrote image is. opens_image payloads payload at d e image s wrote is) stands)
 
-pub opened : (payloads : List (List ℕ)) (payload : List ℕ) (at : ℕ) (a b c : Option (List Draft))
+pub opened : (payloads : List (List ℕ)) (payload : List ℕ) (at : ℕ) (a b c : Option (List DiskMoment))
     → Now a (StandsBefore payloads payload at) → Goes (Writes at 1) a b → Now b (λ d. IsImage d d.content) → Goes Syncs b c → Since a c (OldOrNew payloads payload)
 opened payloads payload at a b c stands goes reads settles =
     since_sync a b c (OldOrNew payloads payload)
@@ -225,12 +225,12 @@ opened payloads payload at a b c stands goes reads settles =
     (opening payloads payload at a b stands goes) reads settles
 
 -- the gate was opened, and the disk may not be settled
-pub record Opened (payloads : List (List ℕ)) (payload : List ℕ) (at : ℕ) (d : Draft) : Type 0 where
+pub record Opened (payloads : List (List ℕ)) (payload : List ℕ) (at : ℕ) (d : DiskMoment) : Type 0 where
   pub rest : List ℕ
   pub is : d.content ≡ records (payloads ++ payload ∷ []) ++ 0 ∷ rest
   pub place : length (records payloads) ≡ at
 
-pub gate_written : (payloads : List (List ℕ)) (payload : List ℕ) (at : ℕ) (d e : Draft) → StandsBefore payloads payload at d → e.content ≡ written at (1 ∷ []) d.content → Opened payloads payload at e
+pub gate_written : (payloads : List (List ℕ)) (payload : List ℕ) (at : ℕ) (d e : DiskMoment) → StandsBefore payloads payload at d → e.content ≡ written at (1 ∷ []) d.content → Opened payloads payload at e
 gate_written payloads payload at d e s wrote = record {
   rest = s.rest;
   is = wrote ∙ shaped ∙ ap (λ g. records payloads ++ g ∷ (length payload ∷ payload ++ 0 ∷ s.rest)) one ∙ sym (records_push payloads payload (0 ∷ s.rest));
@@ -255,7 +255,7 @@ gate_written payloads payload at d e s wrote = record {
     one : slice_index new at ≡ 1
     one = let first : slice_index new at ∷ [] ≡ 1 ∷ [] = ap (take 1) (sym (drop_more new at 0 within)) ∙ there in cc
 
-pub all_opened : (payloads : List (List ℕ)) (payload : List ℕ) (at : ℕ) (a b c : Option (List Draft))
+pub all_opened : (payloads : List (List ℕ)) (payload : List ℕ) (at : ℕ) (a b c : Option (List DiskMoment))
     → Now a (StandsBefore payloads payload at) → Goes (Writes at 1) a b → Then a b (λ x y. y.content ≡ written at (1 ∷ []) x.content) → Goes Syncs b c → Then b c Syncs
     → Now c (Stands (payloads ++ payload ∷ []) (at + length payload + 2))
 all_opened payloads payload at a b c stands goes1 done1 goes2 done2 =

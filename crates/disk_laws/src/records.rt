@@ -2,7 +2,7 @@
 //! opened by a write of its own after a sync, so no checksum has to be trusted.
 ghost use Rattle.std.specs.Prelude.{◌≡◌, ◌++◌, ◌∷◌, [], ◌+◌, ◌<◌, ◌≤◌, ◌^◌, List, ℕ, length, OnOk};
 ghost use Rattle.tier_outside.specs.Causes.{HasCause};
-ghost use Rattle.tier_outside.specs.Moments.{Now, Since};
+ghost use Rattle.tier_outside.specs.DiskMoments.{Now, Since};
 ghost use Rattle.disk_laws.specs.Records.{OldOrNew, Spells, Stands, StandsBefore};
 
 use tier_outside::{Disk, DiskFault};

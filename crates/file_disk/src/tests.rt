@@ -35,9 +35,11 @@ fn a_file_is_a_disk(rt: HostRuntime) -> Result<(), Fail> {
     assert_eq!(rt; end, [100, 0, 7, 7]);
     assert_eq!(rt; disk.read_at(5, &mut end), Ok(0));
     assert_eq!(rt; disk.read_at(1_000, &mut end), Ok(0));
+    // One opening at a time has the file; the next one finds what the first one left.
+    assert!(rt; FileDisk::attach(&rt, "a_file_is_a_disk.img").is_err());
+    assert_eq!(rt; sent(disk).size(), Ok(5));
     let mut again = FileDisk::attach(&rt, "a_file_is_a_disk.img").expect(&rt, "attached again");
     assert_eq!(rt; again.size(), Ok(5));
-    assert_eq!(rt; sent(again).size(), Ok(5));
     assert!(rt; FileDisk::attach(&rt, "no/such/folder/disk.img").is_err());
     Ok(())
 }

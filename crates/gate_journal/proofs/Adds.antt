@@ -4,11 +4,11 @@ use Rattle.std.proofs.Common.{◌∙◌, sym, subst, ap, arith, inl, inr}
 use Rattle.std.proofs.lemmas.Bool.{cases_lt, cases_eq}
 use Rattle.std.proofs.lemmas.Bool.Decides.{nat_tests}
 use Rattle.std.proofs.lemmas.List.{length-take}
-use Rattle.tier_outside.specs.Disk.{Draft, IsImage, settled, written}
-use Rattle.tier_outside.specs.Moments.{last, grown, Now, Then}
+use Rattle.tier_outside.specs.Disk.{DiskMoment, IsImage, settled, written, RangeStands, StopsIn}
+use Rattle.tier_outside.specs.DiskMoments.{last, grown, Now, Then, Leaves}
 use Rattle.gate_journal.specs.declared.journal.Journal.{Journal}
 use Rattle.gate_journal.specs.Journals.{AreRecords, IsClosed, Spells, behind_gate}
-use Rattle.gate_journal.specs.Stands.{RangeStands, StandsAs, StopsIn, Leaves, HoldsWithOrWithout, gate_alone, longer, recorded}
+use Rattle.gate_journal.specs.Stands.{StandsAs, HoldsWithOrWithout, gate_alone, longer, recorded}
 use Rattle.gate_journal.specs.Steps.{AddStops, GateCloses, staged, opened}
 use Rattle.gate_journal.proofs.Images.{untouched_more, stops_wider, stops_again, stops_front, stops_behind, stops_within}
 use Rattle.gate_journal.proofs.Records.{SameBytes, same_part, ThereAt, index_take, index_cons, records_order, records_frame, spells_frame, spells_push, there_record, length_behind}
@@ -17,7 +17,7 @@ use Rattle.gate_journal.proofs.Writes.{written_in, written_front, written_over, 
 use Rattle.tier_outside.proofs.DiskImages.{length_written}
 
 -- settled bytes in front of the range of a write
-stops_same : (from to off count : ℕ) (d : Draft) (image : List ℕ) → RangeStands from to d → to ≤ off → StopsIn off count d image → SameBytes from to d.stable image
+stops_same : (from to off count : ℕ) (d : DiskMoment) (image : List ℕ) → RangeStands from to d → to ≤ off → StopsIn off count d image → SameBytes from to d.stable image
 stops_same from to off count d image stands front is = record {
   same = λ i above below.
       is.kept i (omega (arith, stands.within)) (untouched_more d.touched (off, off + count) i (stands.untouched i above below) (apart off count i (omega arith)));
@@ -102,7 +102,7 @@ gate_stops start gate end payloads payload old stable image small are same is fi
         ]
 
 -- A stop while a record is added behind a journal that stands leaves its payloads, with the new one or without.
-pub with_or_without : (journal : Journal) (payloads : List (List ℕ)) (payload : List ℕ) (d : Draft) (image : List ℕ) → length payload < 2 ^ 32 → journal.next + 6 + length payload ≤ journal.end
+pub with_or_without : (journal : Journal) (payloads : List (List ℕ)) (payload : List ℕ) (d : DiskMoment) (image : List ℕ) → length payload < 2 ^ 32 → journal.next + 6 + length payload ≤ journal.end
     → StandsAs journal payloads d → AddStops journal.next (behind_gate payload) d image → HoldsWithOrWithout journal payloads payload image
 with_or_without journal payloads payload d image small fits stands (inl stops) =
     let same = stops_same journal.start (journal.next + 1) (journal.next + 1) (length (behind_gate payload)) d image stands.settled (omega arith) stops in
@@ -117,7 +117,7 @@ pub settled_stands : (from to : ℕ) (bytes : List ℕ) → to ≤ length bytes 
 settled_stands from to bytes long = record { there = long; within = long; untouched = λ i above below. refl }
 
 -- after the add the longer journal stands
-pub stands_added : (journal : Journal) (payloads : List (List ℕ)) (payload : List ℕ) (d e : Draft) → length payload < 2 ^ 32 → StandsAs journal payloads d
+pub stands_added : (journal : Journal) (payloads : List (List ℕ)) (payload : List ℕ) (d e : DiskMoment) → length payload < 2 ^ 32 → StandsAs journal payloads d
     → StopsIn (journal.next + 1) (length (behind_gate payload)) d (staged journal.next (behind_gate payload) d.content) → e ≡ settled (opened journal.next (behind_gate payload) d.content)
     → StandsAs (longer journal payload) (payloads ++ payload ∷ []) e
 stands_added journal payloads payload d e small stands stops is =
@@ -137,7 +137,7 @@ stands_added journal payloads payload d e small stands stops is =
     }
 
 -- outside of the record nothing is touched
-pub add_outside : (gate : ℕ) (payload : List ℕ) (d : Draft) (image : List ℕ) → AddStops gate (behind_gate payload) d image → StopsIn gate (length payload + 6) d image
+pub add_outside : (gate : ℕ) (payload : List ℕ) (d : DiskMoment) (image : List ℕ) → AddStops gate (behind_gate payload) d image → StopsIn gate (length payload + 6) d image
 add_outside gate payload d image (inl stops) =
     stops_wider (gate + 1) (length (behind_gate payload)) gate (length payload + 6) d image (omega arith) (omega (arith, length_behind payload)) stops
 add_outside gate payload d image (inr opening) =

@@ -2,9 +2,8 @@
 use Rattle.std.specs.Prelude.{◌≡◌, ◌≤◌, ◌<◌, ◌+◌, ℕ, List, [], ◌∷◌, ◌++◌, length, slice_index, max, false, nat_le, nat_lt, ◌&&◌, ◌||◌, refl}
 use Rattle.std.proofs.Common.{◌∙◌, sym, subst, ap, arith}
 use Rattle.std.proofs.lemmas.Bool.Decides.{nat_tests}
-use Rattle.tier_outside.specs.Disk.{Draft, IsImage, Writes, settled, touch, reach, is_touched}
+use Rattle.tier_outside.specs.Disk.{DiskMoment, IsImage, Writes, settled, touch, reach, is_touched, StopsIn}
 use Rattle.tier_outside.proofs.DiskImages.{touched_more, split_touched, settled_only}
-use Rattle.gate_journal.specs.Stands.{StopsIn}
 
 -- a byte that a wider range does not hold
 narrower : (off count off2 count2 i : ℕ) → off2 ≤ off → off + count ≤ off2 + count2
@@ -20,7 +19,7 @@ pub untouched_more : (ranges : List (ℕ × ℕ)) (range : ℕ × ℕ) (i : ℕ)
 untouched_more ranges range i before behind = touched_more ranges range i ∙ rw before (rw behind refl)
 
 -- it might have been left before
-pub stops_before : (off count : ℕ) (d : Draft) (image : List ℕ) → IsImage d image → StopsIn off count d image
+pub stops_before : (off count : ℕ) (d : DiskMoment) (image : List ℕ) → IsImage d image → StopsIn off count d image
 stops_before off count d image is = record {
   no_shorter = is.no_shorter;
   no_longer = omega (arith, is.no_longer);
@@ -28,13 +27,13 @@ stops_before off count d image is = record {
 }
 
 -- it is left in a write
-pub stops_written : (off count : ℕ) (d e : Draft) (image : List ℕ) → Writes off count d e → IsImage e image → StopsIn off count d image
+pub stops_written : (off count : ℕ) (d e : DiskMoment) (image : List ℕ) → Writes off count d e → IsImage e image → StopsIn off count d image
 stops_written off count d e image wrote is =
     let same = subst (λ x. IsImage x image) wrote.is is in
     record { no_shorter = same.no_shorter; no_longer = same.no_longer; kept = same.kept }
 
 -- in a wider range
-pub stops_wider : (off count off2 count2 : ℕ) (d : Draft) (image : List ℕ) → off2 ≤ off → off + count ≤ off2 + count2
+pub stops_wider : (off count off2 count2 : ℕ) (d : DiskMoment) (image : List ℕ) → off2 ≤ off → off + count ≤ off2 + count2
     → StopsIn off count d image → StopsIn off2 count2 d image
 stops_wider off count off2 count2 d image low high is = record {
   no_shorter = is.no_shorter;
@@ -45,7 +44,7 @@ stops_wider off count off2 count2 d image low high is = record {
 }
 
 -- a second write to the range, after the first was settled
-pub stops_again : (off count : ℕ) (d : Draft) (middle image : List ℕ) → StopsIn off count d middle → StopsIn off count (settled middle) image → StopsIn off count d image
+pub stops_again : (off count : ℕ) (d : DiskMoment) (middle image : List ℕ) → StopsIn off count d middle → StopsIn off count (settled middle) image → StopsIn off count d image
 stops_again off count d middle image first second = record {
   no_shorter = omega (arith, first.no_shorter, second.no_shorter);
   no_longer = omega (arith, first.no_longer, second.no_longer);

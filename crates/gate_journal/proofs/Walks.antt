@@ -6,16 +6,16 @@ use Rattle.std.proofs.lemmas.List.{take_all}
 use Rattle.store_face.specs.declared.fault.StoreFault.{StoreFault}
 use Rattle.store_face.specs.declared.fault.StoreFault.TheVariants.{Disk, BadImage, NoSpace, Worn, NoMemory}
 use Rattle.tier_outside.specs.Causes.{Rose}
-use Rattle.tier_outside.specs.Disk.{Draft, IsImage}
-use Rattle.tier_outside.specs.Moments.{last, Now}
+use Rattle.tier_outside.specs.Disk.{DiskMoment, IsImage, RangeStands}
+use Rattle.tier_outside.specs.DiskMoments.{last, Now}
 use Rattle.gate_journal.specs.declared.journal.Journal.{Journal}
 use Rattle.gate_journal.specs.Calls.{Found, WalkEnds}
 use Rattle.gate_journal.specs.Journals.{IsRecord, AreRecords, IsClosed, IsBroken, Means, Spelled, Broken, Spells}
-use Rattle.gate_journal.specs.Stands.{RangeStands, StandsAs}
+use Rattle.gate_journal.specs.Stands.{StandsAs}
 use Rattle.gate_journal.specs.Steps.{RecordRead}
 use Rattle.gate_journal.proofs.Records.{SameBytes, records_push, spells_frame}
 
-pub walk_push : (limit at next : ℕ) (payloads : List (List ℕ)) (payload : List ℕ) (a : Option (List Draft)) → Now a (λ d. AreRecords (take limit d.content) at payloads next)
+pub walk_push : (limit at next : ℕ) (payloads : List (List ℕ)) (payload : List ℕ) (a : Option (List DiskMoment)) → Now a (λ d. AreRecords (take limit d.content) at payloads next)
     → Now a (λ d. IsRecord (take limit d.content) next payload) → Now a (λ d. AreRecords (take limit d.content) at (payloads ++ payload ∷ []) (next + 5 + length payload))
 walk_push limit at next payloads payload None are is = tt
 walk_push limit at next payloads payload (Some ds) are is = records_push (take limit (last ds).content) at payloads next payload are is
@@ -29,13 +29,13 @@ take_limit size end limit xs all is =
     ]
 
 -- the closed gate was found
-pub walk_found : (size end limit at next : ℕ) (payloads : List (List ℕ)) (a : Option (List Draft)) → Now a (λ d. size ≡ length d.content) → limit ≡ min size end
+pub walk_found : (size end limit at next : ℕ) (payloads : List (List ℕ)) (a : Option (List DiskMoment)) → Now a (λ d. size ≡ length d.content) → limit ≡ min size end
     → Now a (λ d. AreRecords (take limit d.content) at payloads next) → at ≤ next → next < limit → Now a (λ d. IsClosed (take limit d.content) next)
     → Found at end a (record { start = at; next = next; end = end }) payloads
 walk_found size end limit at next payloads a all is are low high closed =
     record { start = refl; end_is = refl; order = low; within = omega arith; spelled = spelled a all are closed }
   where
-    spelled : (a : Option (List Draft)) → Now a (λ d. size ≡ length d.content) → Now a (λ d. AreRecords (take limit d.content) at payloads next)
+    spelled : (a : Option (List DiskMoment)) → Now a (λ d. size ≡ length d.content) → Now a (λ d. AreRecords (take limit d.content) at payloads next)
         → Now a (λ d. IsClosed (take limit d.content) next) → Now a (λ d. Means at end d.content (Spelled payloads next))
     spelled None all are closed = tt
     spelled (Some ds) all are closed =
@@ -43,7 +43,7 @@ walk_found size end limit at next payloads a all is are low high closed =
         record { records = subst (λ xs. AreRecords xs at payloads next) same are; gate = subst (λ xs. IsClosed xs next) same closed }
 
 -- it broke
-pub walk_broken : (size end limit at next : ℕ) (payloads : List (List ℕ)) (a : Option (List Draft)) → Now a (λ d. size ≡ length d.content) → limit ≡ min size end
+pub walk_broken : (size end limit at next : ℕ) (payloads : List (List ℕ)) (a : Option (List DiskMoment)) → Now a (λ d. size ≡ length d.content) → limit ≡ min size end
     → Now a (λ d. AreRecords (take limit d.content) at payloads next) → Now a (λ d. IsBroken (take limit d.content) next)
     → Now a (λ d. Means at end d.content (Broken next))
 walk_broken size end limit at next payloads None all is are broken = tt
@@ -52,10 +52,10 @@ walk_broken size end limit at next payloads (Some ds) all is are broken =
     record { payloads = payloads; records = subst (λ xs. AreRecords xs at payloads next) same are; broken = subst (λ xs. IsBroken xs next) same broken }
 
 -- what an image of a disk has where its bytes are settled
-pub stands_same : (from to : ℕ) (d : Draft) (image : List ℕ) → RangeStands from to d → IsImage d image → SameBytes from to d.stable image
+pub stands_same : (from to : ℕ) (d : DiskMoment) (image : List ℕ) → RangeStands from to d → IsImage d image → SameBytes from to d.stable image
 stands_same from to d image stands is = record { same = λ i above below. is.kept i (omega (arith, stands.within)) (stands.untouched i above below) }
 
-pub stands_read : (at end next : ℕ) (payloads : List (List ℕ)) (d : Draft) → IsImage d d.content → Spells at end d.content payloads next → RangeStands at (next + 1) d
+pub stands_read : (at end next : ℕ) (payloads : List (List ℕ)) (d : DiskMoment) → IsImage d d.content → Spells at end d.content payloads next → RangeStands at (next + 1) d
     → StandsAs (record { start = at; next = next; end = end }) payloads d
 stands_read at end next payloads d is spelled stands =
     let same = stands_same at (next + 1) d d.content stands is in
@@ -65,7 +65,7 @@ stands_read at end next payloads d is spelled stands =
     }
 
 -- a walk over settled bytes leaves a journal that stands
-pub walk_stands : (end at next : ℕ) (payloads : List (List ℕ)) (a b : Option (List Draft)) → b ≡ a → Now a (λ d. IsImage d d.content)
+pub walk_stands : (end at next : ℕ) (payloads : List (List ℕ)) (a b : Option (List DiskMoment)) → b ≡ a → Now a (λ d. IsImage d d.content)
     → Found at end a (record { start = at; next = next; end = end }) payloads
     → Now b (λ d. RangeStands at (next + 1) d → StandsAs (record { start = at; next = next; end = end }) payloads d)
 walk_stands end at next payloads None b same image found = subst (λ ms. Now ms (λ d. RangeStands at (next + 1) d → StandsAs (record { start = at; next = next; end = end }) payloads d)) (sym same) tt
@@ -78,7 +78,7 @@ pub rose_earlier : (before middle after : ℕ) → before ≤ middle → Rose mi
 rose_earlier before middle after low rose = omega arith
 
 -- a record could not be read
-pub walk_refused : (size end limit at next : ℕ) (payloads : List (List ℕ)) (a : Option (List Draft)) (failed1 failed2 : Type 0) (fault : StoreFault) → Now a (λ d. size ≡ length d.content)
+pub walk_refused : (size end limit at next : ℕ) (payloads : List (List ℕ)) (a : Option (List DiskMoment)) (failed1 failed2 : Type 0) (fault : StoreFault) → Now a (λ d. size ≡ length d.content)
     → limit ≡ min size end → Now a (λ d. AreRecords (take limit d.content) at payloads next) → (failed1 → failed2) → RecordRead next limit a failed1 (Err fault)
     → WalkEnds at end a failed2 (Err fault)
 walk_refused size end limit at next payloads a failed1 failed2 Disk all is are later read = later read

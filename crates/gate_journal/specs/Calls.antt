@@ -2,8 +2,8 @@
 use Rattle.std.specs.Prelude.{◌≡◌, ℕ, ◌+◌, ◌<◌, ◌≤◌, List, Option, Result, Ok, Err}
 use Rattle.store_face.specs.declared.fault.StoreFault.{StoreFault}
 use Rattle.store_face.specs.declared.fault.StoreFault.TheVariants.{Disk, BadImage, NoSpace, Worn, NoMemory}
-use Rattle.tier_outside.specs.Disk.{Draft}
-use Rattle.tier_outside.specs.Moments.{Now}
+use Rattle.tier_outside.specs.Disk.{DiskMoment}
+use Rattle.tier_outside.specs.DiskMoments.{Now}
 use Rattle.gate_journal.specs.Journals.{Means, Spelled, Broken}
 use Rattle.gate_journal.specs.declared.journal.Journal.{Journal}
 
@@ -18,7 +18,7 @@ AddEnds used need limit same failed (Err (BadImage at)) = ⊥
 AddEnds used need limit same failed (Err (Worn l)) = ⊥
 
 -- a journal that a walk over a range found
-pub record Found (at end : ℕ) (moments : Option (List Draft)) (journal : Journal) (payloads : List (List ℕ)) : Type 0 where
+pub record Found (at end : ℕ) (moments : Option (List DiskMoment)) (journal : Journal) (payloads : List (List ℕ)) : Type 0 where
   pub start : journal.start ≡ at
   pub end_is : journal.end ≡ end
   pub order : at ≤ journal.next
@@ -26,7 +26,7 @@ pub record Found (at end : ℕ) (moments : Option (List Draft)) (journal : Journ
   pub spelled : Now moments (λ d. Means at end d.content (Spelled payloads journal.next))
 
 -- A range is walked. It is refused as no journal exactly at the gate that breaks it; the disk is blamed only where it failed.
-abbrev pub WalkEnds : (at end : ℕ) → Option (List Draft) → (failed : Type 0) → Result (Journal × List (List ℕ)) StoreFault → Type 0
+abbrev pub WalkEnds : (at end : ℕ) → Option (List DiskMoment) → (failed : Type 0) → Result (Journal × List (List ℕ)) StoreFault → Type 0
 WalkEnds at end moments failed (Ok walked) = Found at end moments walked.0 walked.1
 WalkEnds at end moments failed (Err (BadImage gate)) = Now moments (λ d. Means at end d.content (Broken gate))
 WalkEnds at end moments failed (Err Disk) = failed

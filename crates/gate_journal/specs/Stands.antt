@@ -1,15 +1,8 @@
 -- A journal on a disk that may stop: what stands of it, and what each image of a moment may hold.
 use Rattle.std.specs.Prelude.{◌≡◌, ◌⊎◌, ℕ, ◌+◌, ◌<◌, ◌≤◌, ◌^◌, List, [], ◌∷◌, ◌++◌, length, slice_index, Option, false}
-use Rattle.tier_outside.specs.Disk.{Draft, IsImage, is_touched, touch, written}
-use Rattle.tier_outside.specs.Moments.{Now, Since}
+use Rattle.tier_outside.specs.Disk.{DiskMoment, RangeStands, written}
 use Rattle.gate_journal.specs.Journals.{Spells, behind_gate}
 use Rattle.gate_journal.specs.declared.journal.Journal.{Journal}
-
--- the bytes of a range are settled: no write since began among them, and the disk was never shorter
-pub record RangeStands (from to : ℕ) (d : Draft) : Type 0 where
-  pub there : to ≤ length d.stable
-  pub within : to ≤ d.low
-  pub untouched : (i : ℕ) → from ≤ i → i < to → is_touched d.touched i ≡ false
 
 -- the places of a journal on a disk of at most 2^41 bytes
 pub record InRange (journal : Journal) : Type 0 where
@@ -19,12 +12,12 @@ pub record InRange (journal : Journal) : Type 0 where
 
 -- The journal stands on the disk with these payloads, whatever a stop leaves: its bytes up to its closed gate are settled, and spell them.
 -- Its end has no part in it.
-pub record StandsAs (journal : Journal) (payloads : List (List ℕ)) (d : Draft) : Type 0 where
+pub record StandsAs (journal : Journal) (payloads : List (List ℕ)) (d : DiskMoment) : Type 0 where
   pub settled : RangeStands journal.start (journal.next + 1) d
   pub spelled : Spells journal.start (journal.next + 1) d.stable payloads journal.next
 
 -- it stands with some payloads
-abbrev pub Standing : Journal → Draft → Type 0
+abbrev pub Standing : Journal → DiskMoment → Type 0
 Standing journal d = (payloads : List (List ℕ)) × StandsAs journal payloads d
 
 -- the journal of no payload yet, whose closed gate is its first byte
@@ -40,14 +33,6 @@ abbrev pub HoldsWithOrWithout : Journal → List (List ℕ) → List ℕ → Lis
 HoldsWithOrWithout journal payloads payload image =
     Spells journal.start journal.end image payloads journal.next
     ⊎ Spells journal.start journal.end image (payloads ++ payload ∷ []) (longer journal payload).next
-
--- a stop might leave this image in one write to this range, and nothing outside of it
-abbrev pub StopsIn : ℕ → ℕ → Draft → List ℕ → Type 0
-StopsIn off count d image = IsImage (touch off count d.content d) image
-
--- at each moment since, a stop leaves only what stands so to the moment before
-abbrev pub Leaves : Option (List Draft) → Option (List Draft) → (Draft → List ℕ → Type 0) → Type 0
-Leaves old new Q = Since old new (λ image. Now old (λ d. Q d image))
 
 -- what a disk reads as where the open record of a payload and a closed gate behind it stand at a gate
 abbrev pub recorded : ℕ → List ℕ → List ℕ → List ℕ

@@ -2,10 +2,9 @@
 use Rattle.std.specs.Prelude.{◌≡◌, ◌⊎◌, ℕ, ◌+◌, ◌-◌, ◌<◌, ◌≤◌, List, [], ◌∷◌, length, take, drop, slice_index, Option, None, Some, Result, Ok, Err}
 use Rattle.store_face.specs.declared.fault.StoreFault.{StoreFault}
 use Rattle.store_face.specs.declared.fault.StoreFault.TheVariants.{Disk, BadImage, NoSpace, Worn, NoMemory}
-use Rattle.tier_outside.specs.Disk.{Draft, IsImage, settled, written}
-use Rattle.tier_outside.specs.Moments.{Now}
+use Rattle.tier_outside.specs.Disk.{DiskMoment, IsImage, settled, written, StopsIn}
+use Rattle.tier_outside.specs.DiskMoments.{Now}
 use Rattle.gate_journal.specs.Journals.{IsRecord, IsClosed, IsBroken, behind_gate, size_at}
-use Rattle.gate_journal.specs.Stands.{StopsIn}
 
 -- these bytes are written behind a gate
 abbrev pub staged : ℕ → List ℕ → List ℕ → List ℕ
@@ -16,19 +15,19 @@ abbrev pub opened : ℕ → List ℕ → List ℕ → List ℕ
 opened gate body old = written gate (1 ∷ []) (staged gate body old)
 
 -- What a stop leaves while a record is added: before all is settled behind the gate nothing else is touched, and then nothing but the gate.
-abbrev pub AddStops : ℕ → List ℕ → Draft → List ℕ → Type 0
+abbrev pub AddStops : ℕ → List ℕ → DiskMoment → List ℕ → Type 0
 AddStops gate body d image =
     StopsIn (gate + 1) (length body) d image
     ⊎ (StopsIn (gate + 1) (length body) d (staged gate body d.content) × StopsIn gate 1 (settled (staged gate body d.content)) image)
 
 -- what a stop leaves while a gate is closed, which is written only where it did not read as closed
-pub record GateStops (at : ℕ) (d : Draft) (image : List ℕ) : Type 0 where
+pub record GateStops (at : ℕ) (d : DiskMoment) (image : List ℕ) : Type 0 where
   pub stops : StopsIn at 1 d image
   pub opening : ¬ IsClosed d.content at
   pub read : IsImage d d.content
 
 -- a gate was closed: it was so already, or it was written and settled
-pub record GateCloses (at : ℕ) (d e : Draft) : Type 0 where
+pub record GateCloses (at : ℕ) (d e : DiskMoment) : Type 0 where
   pub closed : IsClosed e.content at
   pub either : (e ≡ d) ⊎ ((e ≡ settled (written at (0 ∷ []) d.content)) × StopsIn at 1 d (written at (0 ∷ []) d.content))
 
@@ -38,7 +37,7 @@ pub record IsOpen (bytes : List ℕ) (gate size : ℕ) : Type 0 where
   pub size_is : size_at bytes gate ≡ size
 
 -- the head of a record was read below a limit: it is closed, or the length of a payload that is there with a gate behind it
-abbrev pub HeadRead : (gate limit : ℕ) → Option (List Draft) → (failed : Type 0) → Result (Option ℕ) StoreFault → Type 0
+abbrev pub HeadRead : (gate limit : ℕ) → Option (List DiskMoment) → (failed : Type 0) → Result (Option ℕ) StoreFault → Type 0
 HeadRead gate limit moments failed (Ok None) = (gate < limit) × Now moments (λ d. IsClosed (take limit d.content) gate)
 HeadRead gate limit moments failed (Ok (Some size)) =
     (gate + 5 + size < limit) × Now moments (λ d. IsOpen (take limit d.content) gate size)
@@ -49,7 +48,7 @@ HeadRead gate limit moments failed (Err (NoSpace u n l)) = ⊥
 HeadRead gate limit moments failed (Err (Worn l)) = ⊥
 
 -- a record was read below a limit, or its gate is closed
-abbrev pub RecordRead : (gate limit : ℕ) → Option (List Draft) → (failed : Type 0) → Result (Option (List ℕ)) StoreFault → Type 0
+abbrev pub RecordRead : (gate limit : ℕ) → Option (List DiskMoment) → (failed : Type 0) → Result (Option (List ℕ)) StoreFault → Type 0
 RecordRead gate limit moments failed (Ok None) = (gate < limit) × Now moments (λ d. IsClosed (take limit d.content) gate)
 RecordRead gate limit moments failed (Ok (Some payload)) =
     (gate + 5 + length payload < limit) × Now moments (λ d. IsRecord (take limit d.content) gate payload)

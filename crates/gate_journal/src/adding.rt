@@ -1,11 +1,11 @@
 //! Adding records to a journal, so that at each moment a stop leaves a record whole or not there.
 ghost use Rattle.std.specs.Prelude.{◌≡◌, ◌⊎◌, ◌+◌, ◌<◌, ◌≤◌, ◌^◌, List, ℕ, [], ◌∷◌, ◌++◌, length, IfOk, OnOk, OnErr};
 ghost use Rattle.tier_outside.specs.Causes.{HasCause, Rose};
-ghost use Rattle.tier_outside.specs.Disk.{settled};
-ghost use Rattle.tier_outside.specs.Moments.{Now, Then};
+ghost use Rattle.tier_outside.specs.Disk.{settled, StopsIn};
+ghost use Rattle.tier_outside.specs.DiskMoments.{Now, Then, Leaves};
 ghost use Rattle.gate_journal.specs.Calls.{AddEnds};
 ghost use Rattle.gate_journal.specs.Journals.{IsClosed};
-ghost use Rattle.gate_journal.specs.Stands.{InRange, Leaves, Standing, StandsAs, StopsIn, HoldsWithOrWithout, gate_alone, longer, recorded};
+ghost use Rattle.gate_journal.specs.Stands.{InRange, Standing, StandsAs, HoldsWithOrWithout, gate_alone, longer, recorded};
 
 use crate::Journal;
 use crate::record::{Record, record_body};

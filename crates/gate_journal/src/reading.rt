@@ -1,9 +1,10 @@
 //! Reading a journal, from its first gate to its closed one.
+ghost use Rattle.tier_outside.specs.Disk.{RangeStands};
 ghost use Rattle.std.specs.Prelude.{◌≡◌, ◌+◌, ◌≤◌, ◌^◌, IfOk};
 ghost use Rattle.tier_outside.specs.Causes.{Rose};
-ghost use Rattle.tier_outside.specs.Moments.{Now};
+ghost use Rattle.tier_outside.specs.DiskMoments.{Now};
 ghost use Rattle.gate_journal.specs.Calls.{WalkEnds};
-ghost use Rattle.gate_journal.specs.Stands.{RangeStands, StandsAs};
+ghost use Rattle.gate_journal.specs.Stands.{StandsAs};
 
 use crate::Journal;
 use crate::record::read_record;

@@ -1,7 +1,7 @@
 //! The bytes of a record.
 ghost use Rattle.std.specs.Prelude.{◌≡◌, ◌+◌, ◌<◌, ◌≤◌, ◌^◌, length, IfOk};
 ghost use Rattle.tier_outside.specs.Causes.{Rose};
-ghost use Rattle.tier_outside.specs.Moments.{Now};
+ghost use Rattle.tier_outside.specs.DiskMoments.{Now};
 ghost use Rattle.gate_journal.specs.Journals.{behind_gate};
 ghost use Rattle.gate_journal.specs.Calls.{AddEnds};
 ghost use Rattle.gate_journal.specs.Stands.{InRange};

@@ -1,9 +1,8 @@
 //! Writes that are settled, of which the journal's calls are made.
 ghost use Rattle.std.specs.Prelude.{◌≡◌, ◌+◌, ◌<◌, ◌≤◌, ◌^◌, length, OnOk, IfOk};
 ghost use Rattle.tier_outside.specs.Causes.{HasCause};
-ghost use Rattle.tier_outside.specs.Disk.{settled, written};
-ghost use Rattle.tier_outside.specs.Moments.{Then};
-ghost use Rattle.gate_journal.specs.Stands.{Leaves, StopsIn};
+ghost use Rattle.tier_outside.specs.Disk.{settled, written, StopsIn};
+ghost use Rattle.tier_outside.specs.DiskMoments.{Then, Leaves};
 ghost use Rattle.gate_journal.specs.Steps.{AddStops, GateCloses, GateStops, opened, staged};
 
 use tier_outside::{Disk, DiskFault};

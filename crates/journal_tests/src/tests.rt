@@ -1,6 +1,6 @@
 //! Tables of stops, of faults, of damaged images and of ends, with what is found by the rules.
 ghost use Rattle.std.specs.Prelude.{◌≡◌, ◌≤◌, ◌^◌};
-ghost use Rattle.tier_outside.specs.Moments.{Now};
+ghost use Rattle.tier_outside.specs.DiskMoments.{Now};
 ghost use Rattle.gate_journal.specs.Stands.{InRange, Standing};
 
 use gate_journal::{Journal, append, start, walk};

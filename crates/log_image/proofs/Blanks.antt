@@ -5,12 +5,11 @@ use Rattle.std.proofs.Common.{◌∙◌, sym, subst, ap, arith, inl, inr}
 use Rattle.std.proofs.lemmas.Bool.{cases_lt, cases_eq}
 use Rattle.std.proofs.lemmas.List.{get_or-take, length-take, length-drop}
 use Rattle.obj_model.specs.declared.change.Pool.{Pool}
-use Rattle.tier_outside.specs.Disk.{Draft, settled, written}
-use Rattle.tier_outside.specs.Moments.{last, Now, Then}
+use Rattle.tier_outside.specs.Disk.{DiskMoment, settled, written, StopsIn, IsSettled}
+use Rattle.tier_outside.specs.DiskMoments.{last, Now, Then, Leaves}
 use Rattle.tier_outside.proofs.DiskImages.{length_written, written_there}
-use Rattle.tier_outside.proofs.Moments.{since_weaker, now_both}
+use Rattle.tier_outside.proofs.DiskMoments.{since_weaker, now_both}
 use Rattle.gate_journal.specs.Journals.{Spells, behind_gate}
-use Rattle.gate_journal.specs.Stands.{Leaves, StopsIn}
 use Rattle.gate_journal.proofs.Adds.{settled_stands}
 use Rattle.gate_journal.proofs.Images.{stops_front, stops_behind, stops_within}
 use Rattle.gate_journal.proofs.Records.{SameBytes, same_body, ThereAt, there_record, index_drop, index_cons}
@@ -18,7 +17,7 @@ use Rattle.gate_journal.proofs.Steps.{leaves_both, leaves_weaker, Put}
 use Rattle.gate_journal.proofs.Writes.{written_in, written_behind}
 use Rattle.log_image.specs.Images.{HoldsLog, IsHalfOpen, head, no_txns, rest}
 use Rattle.log_image.specs.Fronts.{IsUnwritten}
-use Rattle.log_image.specs.Standing.{BlankOrNew, IsSettled, LogStands, first_journal}
+use Rattle.log_image.specs.Standing.{BlankOrNew, LogStands, first_journal}
 use Rattle.log_image.specs.Steps.{IsZeroed, RestStands}
 
 -- ---- a log without transactions
@@ -70,13 +69,13 @@ unwritten_short zeroed bytes none is =
           ]
     ]
 
-pub closing : (zeroed : Bool) (d : Draft) (image : List ℕ) → zeroed ≡ false → IsSettled d → IsUnwritten d.content zeroed → StopsIn 0 1 d image → length image ≤ 1
+pub closing : (zeroed : Bool) (d : DiskMoment) (image : List ℕ) → zeroed ≡ false → IsSettled d → IsUnwritten d.content zeroed → StopsIn 0 1 d image → length image ≤ 1
 closing zeroed d image none whole unwritten stops =
     let short : length d.content ≤ 1 = unwritten_short zeroed d.content none unwritten in
     let is : StopsIn 0 1 (settled d.content) image = subst (λ x. StopsIn 0 1 x image) whole stops in
     omega (arith, is.no_longer)
 
-pub closed : (d e : Draft) → Put 0 (0 ∷ []) d e → IsZeroed e
+pub closed : (d e : DiskMoment) → Put 0 (0 ∷ []) d e → IsZeroed e
 closed d e put =
     let now : List ℕ = written 0 (0 ∷ []) d.content in
     subst IsZeroed (sym put.0) record { settled = refl; some = long d.content; zero = written_in 0 (0 ∷ []) d.content 0 (omega arith) }
@@ -84,26 +83,26 @@ closed d e put =
     long : (old : List ℕ) → 0 < length (written 0 (0 ∷ []) old)
     long old = omega (arith, length_written 0 (0 ∷ []) old)
 
-pub still_closed : (zeroed : Bool) (d : Draft) → zeroed ≡ true → IsSettled d → IsUnwritten d.content zeroed → IsZeroed d
+pub still_closed : (zeroed : Bool) (d : DiskMoment) → zeroed ≡ true → IsSettled d → IsUnwritten d.content zeroed → IsZeroed d
 still_closed zeroed d is whole unwritten = let h = unwritten.zero_is.0 is in record { settled = whole; some = h.0; zero = h.1 }
 
 -- ---- what stands behind it is written
 
-pub staging : (d : Draft) (image : List ℕ) → IsZeroed d → StopsIn 1 22 d image → slice_index image 0 ≡ 0
+pub staging : (d : DiskMoment) (image : List ℕ) → IsZeroed d → StopsIn 1 22 d image → slice_index image 0 ≡ 0
 staging d image is stops =
     stops_front 1 22 d.content image 0 (omega arith) is.some (subst (λ x. StopsIn 1 22 x image) is.settled stops) ∙ is.zero
 
-pub staged : (role : Pool) (pair : ℕ) (d e : Draft) → pair < 2 ^ 64 → IsZeroed d → Put 1 (rest role pair) d e → RestStands role pair e
+pub staged : (role : Pool) (pair : ℕ) (d e : DiskMoment) → pair < 2 ^ 64 → IsZeroed d → Put 1 (rest role pair) d e → RestStands role pair e
 staged role pair d e fits is put =
     let some = is.some in
     subst (RestStands role pair) (sym put.0) record { settled = refl; fits = fits; behind = written_there 1 (rest role pair) d.content (omega arith) }
 
-pub half_staged : (role : Pool) (pair : ℕ) (d : Draft) → IsSettled d → IsHalfOpen role pair d.content → RestStands role pair d
+pub half_staged : (role : Pool) (pair : ℕ) (d : DiskMoment) → IsSettled d → IsHalfOpen role pair d.content → RestStands role pair d
 half_staged role pair d whole is = record { settled = whole; fits = is.fits; behind = is.behind }
 
 -- ---- the first gate is opened
 
-pub opening : (role : Pool) (pair : ℕ) (d : Draft) (image : List ℕ) → RestStands role pair d → StopsIn 0 1 d image → BlankOrNew role pair image
+pub opening : (role : Pool) (pair : ℕ) (d : DiskMoment) (image : List ℕ) → RestStands role pair d → StopsIn 0 1 d image → BlankOrNew role pair image
 opening role pair d image is stops =
     let old : List ℕ = d.content in
     let long : 23 ≤ length old = rest_long role pair old is.behind in
@@ -120,7 +119,7 @@ opening role pair d image is stops =
           ]
     ]
 
-pub opened : (role : Pool) (pair : ℕ) (d e : Draft) → RestStands role pair d → Put 0 (1 ∷ []) d e → LogStands role pair first_journal fin.empty e
+pub opened : (role : Pool) (pair : ℕ) (d e : DiskMoment) → RestStands role pair d → Put 0 (1 ∷ []) d e → LogStands role pair first_journal fin.empty e
 opened role pair d e is put =
     let old : List ℕ = d.content in
     let now : List ℕ = written 0 (1 ∷ []) old in
@@ -139,59 +138,59 @@ opened role pair d e is put =
 -- ---- calls one after another
 
 -- what is left, where the moment before has P
-pub leaves_from : (a b : Option (List Draft)) (P : Draft → Type 0) (Q : Draft → List ℕ → Type 0) (R : List ℕ → Type 0) → Now a P → ((d : Draft) (image : List ℕ) → P d → Q d image → R image)
+pub leaves_from : (a b : Option (List DiskMoment)) (P : DiskMoment → Type 0) (Q : DiskMoment → List ℕ → Type 0) (R : List ℕ → Type 0) → Now a P → ((d : DiskMoment) (image : List ℕ) → P d → Q d image → R image)
     → Leaves a b Q → Leaves a b (λ d image. R image)
 leaves_from None b P Q R now weaker left = left
 leaves_from (Some ds) b P Q R now weaker left = since_weaker (Some ds) b (Q (last ds)) R (λ image q. weaker (last ds) image now q) left
 
 -- what stands afterwards
-pub now_from : (a b : Option (List Draft)) (P : Draft → Type 0) (Q : Draft → List ℕ → Type 0) (S : Draft → Draft → Type 0) (R : Draft → Type 0) → Leaves a b Q → Now a P → Then a b S
-    → ((d e : Draft) → P d → S d e → R e) → Now b R
+pub now_from : (a b : Option (List DiskMoment)) (P : DiskMoment → Type 0) (Q : DiskMoment → List ℕ → Type 0) (S : DiskMoment → DiskMoment → Type 0) (R : DiskMoment → Type 0) → Leaves a b Q → Now a P → Then a b S
+    → ((d e : DiskMoment) → P d → S d e → R e) → Now b R
 now_from None b P Q S R left now done follows = subst (λ ms. Now ms R) (sym left.grew) tt
 now_from (Some ds) None P Q S R left now done follows = tt
 now_from (Some ds) (Some es) P Q S R left now done follows = follows (last ds) (last es) now done
 
 -- two calls that leave only what has Q
-pub leaves_on : (a b c : Option (List Draft)) (Q : List ℕ → Type 0) → Leaves a b (λ d image. Q image) → Leaves b c (λ d image. Q image) → Leaves a c (λ d image. Q image)
+pub leaves_on : (a b c : Option (List DiskMoment)) (Q : List ℕ → Type 0) → Leaves a b (λ d image. Q image) → Leaves b c (λ d image. Q image) → Leaves a c (λ d image. Q image)
 leaves_on a b c Q first second = leaves_both a b c (λ d image. Q image) (λ d image. Q image) (λ d e. Unit {0}) first (anything a b) second (λ d e image any left. left)
   where
-    anything : (a b : Option (List Draft)) → Then a b (λ d e. Unit {0})
+    anything : (a b : Option (List DiskMoment)) → Then a b (λ d e. Unit {0})
     anything None b = tt
     anything (Some ds) None = tt
     anything (Some ds) (Some es) = tt
 
 -- the parts of what is left while a blank disk is formatted
-pub short_left : (role : Pool) (pair : ℕ) (a b : Option (List Draft)) → Leaves a b (λ d image. length image ≤ 1) → Leaves a b (λ d image. BlankOrNew role pair image)
+pub short_left : (role : Pool) (pair : ℕ) (a b : Option (List DiskMoment)) → Leaves a b (λ d image. length image ≤ 1) → Leaves a b (λ d image. BlankOrNew role pair image)
 short_left role pair a b left = leaves_weaker a b (λ d image. length image ≤ 1) (λ d image. BlankOrNew role pair image) (λ d image short. inl (inl short)) left
 
-pub zero_left : (role : Pool) (pair : ℕ) (a b : Option (List Draft)) → Leaves a b (λ d image. slice_index image 0 ≡ 0) → Leaves a b (λ d image. BlankOrNew role pair image)
+pub zero_left : (role : Pool) (pair : ℕ) (a b : Option (List DiskMoment)) → Leaves a b (λ d image. slice_index image 0 ≡ 0) → Leaves a b (λ d image. BlankOrNew role pair image)
 zero_left role pair a b left = leaves_weaker a b (λ d image. slice_index image 0 ≡ 0) (λ d image. BlankOrNew role pair image) (λ d image zero. inl (inr (inl zero))) left
 
 -- ---- the calls
 
 -- the first gate was written, on a disk of at most a byte
-pub close_leaves : (zeroed : Bool) (a b : Option (List Draft)) → zeroed ≡ false → Now a IsSettled → Now a (λ d. IsUnwritten d.content zeroed) → Leaves a b (StopsIn 0 1) → Leaves a b (λ d image. length image ≤ 1)
+pub close_leaves : (zeroed : Bool) (a b : Option (List DiskMoment)) → zeroed ≡ false → Now a IsSettled → Now a (λ d. IsUnwritten d.content zeroed) → Leaves a b (StopsIn 0 1) → Leaves a b (λ d image. length image ≤ 1)
 close_leaves zeroed a b none whole unwritten left =
     leaves_from a b (λ d. IsSettled d × IsUnwritten d.content zeroed) (StopsIn 0 1) (λ image. length image ≤ 1) (now_both a IsSettled (λ d. IsUnwritten d.content zeroed) whole unwritten)
     (λ d image is stops. closing zeroed d image none is.0 is.1 stops) left
 
 -- what stands behind it was written
-pub stage_leaves : (role : Pool) (pair : ℕ) (bytes : List ℕ) (a b : Option (List Draft)) → bytes ≡ rest role pair → Now a IsZeroed → Leaves a b (StopsIn 1 (length bytes)) → Leaves a b (λ d image. slice_index image 0 ≡ 0)
+pub stage_leaves : (role : Pool) (pair : ℕ) (bytes : List ℕ) (a b : Option (List DiskMoment)) → bytes ≡ rest role pair → Now a IsZeroed → Leaves a b (StopsIn 1 (length bytes)) → Leaves a b (λ d image. slice_index image 0 ≡ 0)
 stage_leaves role pair bytes a b same now left =
     leaves_from a b IsZeroed (StopsIn 1 22) (λ image. slice_index image 0 ≡ 0) now staging (subst (λ xs. Leaves a b (StopsIn 1 (length xs))) same left)
 
-pub stage_done : (role : Pool) (pair : ℕ) (bytes : List ℕ) (a b : Option (List Draft)) → bytes ≡ rest role pair → pair < 2 ^ 64 → Now a IsZeroed → Leaves a b (StopsIn 1 (length bytes)) → Then a b (Put 1 bytes)
+pub stage_done : (role : Pool) (pair : ℕ) (bytes : List ℕ) (a b : Option (List DiskMoment)) → bytes ≡ rest role pair → pair < 2 ^ 64 → Now a IsZeroed → Leaves a b (StopsIn 1 (length bytes)) → Then a b (Put 1 bytes)
     → Now b (RestStands role pair)
 stage_done role pair bytes a b same fits now left done =
     now_from a b IsZeroed (StopsIn 1 (length bytes)) (Put 1 (rest role pair)) (RestStands role pair) left now (subst (λ xs. Then a b (Put 1 xs)) same done) (λ d e is put. staged role pair d e fits is put)
 
 -- the first gate was written again, over all that stands behind it
-pub open_leaves : (role : Pool) (pair : ℕ) (a b : Option (List Draft)) → Now a (RestStands role pair) → Leaves a b (StopsIn 0 1) → Leaves a b (λ d image. BlankOrNew role pair image)
+pub open_leaves : (role : Pool) (pair : ℕ) (a b : Option (List DiskMoment)) → Now a (RestStands role pair) → Leaves a b (StopsIn 0 1) → Leaves a b (λ d image. BlankOrNew role pair image)
 open_leaves role pair a b now left = leaves_from a b (RestStands role pair) (StopsIn 0 1) (BlankOrNew role pair) now (opening role pair) left
 
-pub open_done : (role : Pool) (pair : ℕ) (a b : Option (List Draft)) → Now a (RestStands role pair) → Leaves a b (StopsIn 0 1) → Then a b (Put 0 (1 ∷ [])) → Now b (LogStands role pair first_journal fin.empty)
+pub open_done : (role : Pool) (pair : ℕ) (a b : Option (List DiskMoment)) → Now a (RestStands role pair) → Leaves a b (StopsIn 0 1) → Then a b (Put 0 (1 ∷ [])) → Now b (LogStands role pair first_journal fin.empty)
 open_done role pair a b now left done = now_from a b (RestStands role pair) (StopsIn 0 1) (Put 0 (1 ∷ [])) (LogStands role pair first_journal fin.empty) left now done (opened role pair)
 
 -- the first two steps of formatting
-pub staged_left : (role : Pool) (pair : ℕ) (a b c : Option (List Draft)) → Leaves a b (λ d image. length image ≤ 1) → Leaves b c (λ d image. slice_index image 0 ≡ 0) → Leaves a c (λ d image. BlankOrNew role pair image)
+pub staged_left : (role : Pool) (pair : ℕ) (a b c : Option (List DiskMoment)) → Leaves a b (λ d image. length image ≤ 1) → Leaves b c (λ d image. slice_index image 0 ≡ 0) → Leaves a c (λ d image. BlankOrNew role pair image)
 staged_left role pair a b c first second = leaves_on a b c (BlankOrNew role pair) (short_left role pair a b first) (zero_left role pair b c second)

@@ -5,13 +5,13 @@ use Rattle.std.proofs.lemmas.List.{length-take}
 use Rattle.obj_model.specs.declared.change.Pool.{Pool}
 use Rattle.store_face.specs.declared.fault.StoreFault.{StoreFault}
 use Rattle.store_face.specs.declared.fault.StoreFault.TheVariants.{Disk, BadImage, NoSpace, Worn, NoMemory}
-use Rattle.tier_outside.specs.Disk.{Draft}
-use Rattle.tier_outside.specs.Moments.{Now}
-use Rattle.tier_outside.proofs.Moments.{now_weaker, now_both}
+use Rattle.tier_outside.specs.Disk.{DiskMoment, RangeStands}
+use Rattle.tier_outside.specs.DiskMoments.{Now}
+use Rattle.tier_outside.proofs.DiskMoments.{now_weaker, now_both}
 use Rattle.gate_journal.specs.declared.journal.Journal.{Journal}
 use Rattle.gate_journal.specs.Calls.{Found, WalkEnds}
 use Rattle.gate_journal.specs.Journals.{Means, Broken, Spells}
-use Rattle.gate_journal.specs.Stands.{RangeStands, StandsAs}
+use Rattle.gate_journal.specs.Stands.{StandsAs}
 use Rattle.gate_journal.proofs.Records.{index_take}
 use Rattle.pool_map.specs.Pools.{PoolView}
 use Rattle.log_image.specs.Calls.{Held, ReadEnds}
@@ -44,9 +44,9 @@ image_holds role pair image payloads next map rebuilt spelled headed = record {
 }
 
 -- and the log stands where they are settled
-pub draft_stands : (role : Pool) (pair : ℕ) (d : Draft) (journal : Journal) (payloads : List (List ℕ)) (map : PoolView) → Rebuilt payloads map
+pub moment_stands : (role : Pool) (pair : ℕ) (d : DiskMoment) (journal : Journal) (payloads : List (List ℕ)) (map : PoolView) → Rebuilt payloads map
     → Spells 0 (2 ^ 40) d.content payloads journal.next → StandsAs journal payloads d → IsHeaded role pair d.content → LogStands role pair journal map.table d
-draft_stands role pair d journal payloads map rebuilt spelled stands headed = record {
+moment_stands role pair d journal payloads map rebuilt spelled stands headed = record {
   payloads = rebuilt.others;
   txns = rebuilt.replayed.txns;
   stands = subst (λ ps. StandsAs journal ps d) (first_is role pair d.content payloads journal.next map rebuilt headed spelled) stands;
@@ -54,7 +54,7 @@ draft_stands role pair d journal payloads map rebuilt spelled stands headed = re
   made = ap (λ (m : PoolView). m.table) rebuilt.replayed.made;
 }
 
-pub read_held : (moments : Option (List Draft)) (journal : Journal) (payloads : List (List ℕ)) (map : PoolView) → Found 0 (2 ^ 40) moments journal payloads
+pub read_held : (moments : Option (List DiskMoment)) (journal : Journal) (payloads : List (List ℕ)) (map : PoolView) → Found 0 (2 ^ 40) moments journal payloads
     → Now moments (λ d. RangeStands 0 (journal.next + 1) d → StandsAs journal payloads d) → Rebuilt payloads map → Held moments journal map
 read_held moments journal payloads map found stands rebuilt = record {
   journal_is = record { start = found.start; end_most = omega (arith, found.end_is); within = omega (arith, found.end_is, found.within) };
@@ -62,7 +62,7 @@ read_held moments journal payloads map found stands rebuilt = record {
   holds = now_weaker moments (λ d. Spells 0 (2 ^ 40) d.content payloads journal.next) _
       (λ d spelled role pair headed. image_holds role pair d.content payloads journal.next map rebuilt spelled headed) found.spelled;
   stands = now_weaker moments (λ d. Spells 0 (2 ^ 40) d.content payloads journal.next × (RangeStands 0 (journal.next + 1) d → StandsAs journal payloads d)) _
-      (λ d both role pair headed range. draft_stands role pair d journal payloads map rebuilt both.0 (both.1 range) headed)
+      (λ d both role pair headed range. moment_stands role pair d journal payloads map rebuilt both.0 (both.1 range) headed)
       (now_both moments _ _ found.spelled stands);
 }
 
@@ -97,7 +97,7 @@ stumbled_at image payloads next at spelled stumbled =
     exact n small = omega arith
 
 -- a map was not made
-pub read_refused : (moments : Option (List Draft)) (journal : Journal) (payloads : List (List ℕ)) (failed : Type 0) (fault : StoreFault) → Now moments (λ d. slice_index d.content 0 ≡ 1)
+pub read_refused : (moments : Option (List DiskMoment)) (journal : Journal) (payloads : List (List ℕ)) (failed : Type 0) (fault : StoreFault) → Now moments (λ d. slice_index d.content 0 ≡ 1)
     → Found 0 (2 ^ 40) moments journal payloads → RebuildEnds payloads (Err fault) → ReadEnds moments failed (Err fault)
 read_refused moments journal payloads failed (BadImage at) opening found (inl none) =
     now_weaker moments (λ d. (slice_index d.content 0 ≡ 1) × Spells 0 (2 ^ 40) d.content payloads journal.next) _
@@ -111,7 +111,7 @@ read_refused moments journal payloads failed (NoSpace used need limit) opening f
 read_refused moments journal payloads failed (Worn limit) opening found ends = ends
 
 -- a journal was not found
-pub walk_refused : (moments : Option (List Draft)) (failed : Type 0) (fault : StoreFault) → WalkEnds 0 (2 ^ 40) moments failed (Err fault) → ReadEnds moments failed (Err fault)
+pub walk_refused : (moments : Option (List DiskMoment)) (failed : Type 0) (fault : StoreFault) → WalkEnds 0 (2 ^ 40) moments failed (Err fault) → ReadEnds moments failed (Err fault)
 walk_refused moments failed (BadImage at) ends = now_weaker moments (λ d. Means 0 (2 ^ 40) d.content (Broken at)) _ (λ d broken. inl broken) ends
 walk_refused moments failed Disk ends = ends
 walk_refused moments failed NoMemory ends = tt

@@ -9,7 +9,7 @@ use Rattle.byteorder.specs.Numbers.{length-bytes_high_first}
 use Rattle.obj_model.specs.declared.change.Change.{Change}
 use Rattle.obj_model.specs.declared.change.Change.TheVariants.{Put, Remove}
 use Rattle.obj_model.specs.declared.change.Pool.{Pool}
-use Rattle.tier_outside.specs.Disk.{Draft}
+use Rattle.tier_outside.specs.Disk.{DiskMoment}
 use Rattle.rec_codec.specs.Spelling.{SpellsTxn, change, store_key, string, txn_bytes}
 use Rattle.gate_journal.specs.declared.journal.Journal.{Journal}
 use Rattle.store_face.specs.Limits.{IsPoolMap, weight}
@@ -69,7 +69,7 @@ made_within t gate (payload ∷ payloads) (txn ∷ txns) each was =
     }
 
 -- the map of a log that stands is that of a store
-pub stands_lawful : (role : Pool) (pair : ℕ) (journal : Journal) (table : Table) (d : Draft) → LogStands role pair journal table d → IsLogJournal journal → IsPoolMap table
+pub stands_lawful : (role : Pool) (pair : ℕ) (journal : Journal) (table : Table) (d : DiskMoment) → LogStands role pair journal table d → IsLogJournal journal → IsPoolMap table
 stands_lawful role pair journal table d log is =
     let gate : ℕ = journal.start + 5 + length (head role pair) in
     let made = made_within fin.empty gate log.payloads log.txns log.each (record { lawful = empty_lawful; weighs = omega (arith, empty_weight) }) in

@@ -8,8 +8,8 @@ use Rattle.std.proofs.lemmas.Slice.Eq.{bytes_eq-Decides}
 use Rattle.byteorder.specs.Endian.{big_bytes, big_number}
 use Rattle.byteorder.specs.Numbers.{big_from-take, big_from-lt, length-bytes_high_first}
 use Rattle.obj_model.specs.declared.change.Pool.{Pool}
-use Rattle.tier_outside.specs.Disk.{Draft, Reads}
-use Rattle.tier_outside.specs.Moments.{last, Now}
+use Rattle.tier_outside.specs.Disk.{DiskMoment, Reads}
+use Rattle.tier_outside.specs.DiskMoments.{last, Now}
 use Rattle.gate_journal.proofs.Records.{index_take}
 use Rattle.rec_codec.proofs.BlockLaws.{u64_reads}
 use Rattle.rec_codec.proofs.Readers.{IsBytes, IsBytes-drop}
@@ -175,14 +175,14 @@ front_seen role (Headed pair) image is =
     record { used = used_seen role image is.used; tested = sym (fault_seen role image) ∙ is.tested; pair_is = sym (pair_seen image) ∙ is.pair_is; pair_bytes = sym (cut_part 14 8 23 image (omega arith)) ∙ is.pair_bytes }
 
 -- what was read of the front
-front_read : (d : Draft) (count : ℕ) (old new : List ℕ) → length old ≡ 23 → Reads 0 d count old new → take count new ≡ take 23 d.content
+front_read : (d : DiskMoment) (count : ℕ) (old new : List ℕ) → length old ≡ 23 → Reads 0 d count old new → take count new ≡ take 23 d.content
 front_read d count old new long is =
     elim (cases_lt (length d.content) 23) [
       | inl short ↦ is.bytes ∙ take_all count d.content (omega (arith, is.count_is)) ∙ sym (take_all 23 d.content (omega arith))
       | inr enough ↦ let all : count ≡ 23 = omega (arith, is.count_is) in is.bytes ∙ ap (λ n. take n d.content) all
     ]
 
-pub looked : (role : Pool) (front : Front) (count : ℕ) (a : Option (List Draft)) (old new bytes : List ℕ) → length old ≡ 23 → Now a (λ d. Reads 0 d count old new) → bytes ≡ take count new
+pub looked : (role : Pool) (front : Front) (count : ℕ) (a : Option (List DiskMoment)) (old new bytes : List ℕ) → length old ≡ 23 → Now a (λ d. Reads 0 d count old new) → bytes ≡ take count new
     → FrontIs role bytes front → Now a (λ d. FrontIs role d.content front)
 looked role front count None old new bytes long read is told = tt
 looked role front count (Some ds) old new bytes long read is told =

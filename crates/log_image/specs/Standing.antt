@@ -3,7 +3,7 @@ use Rattle.std.specs.Prelude.{◌≡◌, ◌⊎◌, ℕ, ◌<◌, ◌≤◌, Lis
 use Rattle.std.specs.FinMap as fin
 use Rattle.obj_model.specs.declared.change.Change.{Change}
 use Rattle.obj_model.specs.declared.change.Pool.{Pool}
-use Rattle.tier_outside.specs.Disk.{Draft, settled}
+use Rattle.tier_outside.specs.Disk.{DiskMoment, settled}
 use Rattle.gate_journal.specs.Stands.{StandsAs}
 use Rattle.gate_journal.specs.declared.journal.Journal.{Journal}
 use Rattle.store_face.specs.Limits.{store_limit}
@@ -22,7 +22,7 @@ abbrev pub ends_at : ℕ → Journal → Journal
 ends_at end journal = record { start = journal.start; next = journal.next; end = end }
 
 -- The log stands on the disk with this map, whatever a stop leaves: its bytes up to its closed gate are settled.
-pub record LogStands (role : Pool) (pair : ℕ) (journal : Journal) (table : Table) (d : Draft) : Type 0 where
+pub record LogStands (role : Pool) (pair : ℕ) (journal : Journal) (table : Table) (d : DiskMoment) : Type 0 where
   pub payloads : List (List ℕ)
   pub txns : List (List Change)
   pub stands : StandsAs journal (head role pair ∷ payloads) d
@@ -32,10 +32,6 @@ pub record LogStands (role : Pool) (pair : ℕ) (journal : Journal) (table : Tab
 -- the journal of a log without transactions
 abbrev pub first_journal : Journal
 first_journal = record { start = 0; next = 22; end = store_limit }
-
--- all that the disk reads as is settled
-abbrev pub IsSettled : Draft → Type 0
-IsSettled d = d ≡ settled d.content
 
 -- what a stop leaves while a blank disk is formatted: it is still blank, or holds a log without transactions
 abbrev pub BlankOrNew : Pool → ℕ → List ℕ → Type 0

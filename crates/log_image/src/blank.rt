@@ -1,12 +1,12 @@
 //! Formatting an empty disk, so that a stop at any moment leaves it empty, or with a log without transactions.
+ghost use Rattle.tier_outside.specs.Disk.{IsSettled};
 ghost use Rattle.std.specs.Prelude.{◌≡◌, ◌≤◌, length, slice_index, IfOk, OnOk};
 ghost use Rattle.std.specs.FinMap as fin;
 ghost use Rattle.tier_outside.specs.Causes.{HasCause};
-ghost use Rattle.tier_outside.specs.Moments.{Now};
-ghost use Rattle.gate_journal.specs.Stands.{Leaves};
+ghost use Rattle.tier_outside.specs.DiskMoments.{Now, Leaves};
 ghost use Rattle.log_image.specs.Images.{IsHalfOpen, rest};
 ghost use Rattle.log_image.specs.Fronts.{IsUnwritten};
-ghost use Rattle.log_image.specs.Standing.{BlankOrNew, IsSettled, LogStands, first_journal};
+ghost use Rattle.log_image.specs.Standing.{BlankOrNew, LogStands, first_journal};
 ghost use Rattle.log_image.specs.Steps.{IsZeroed, RestStands};
 
 use crate::head::{CLOSED, LOG_LIMIT, OPEN, role_byte};

@@ -2,7 +2,7 @@
 ghost use Rattle.std.specs.Prelude.{◌≡◌, ◌↔◌, ◌<◌, ◌≤◌, IsTrue, length, slice_index, IfOk};
 ghost use Rattle.tier_outside.specs.Causes.{HasCause};
 ghost use Rattle.tier_outside.specs.Disk.{IsImage};
-ghost use Rattle.tier_outside.specs.Moments.{Now};
+ghost use Rattle.tier_outside.specs.DiskMoments.{Now};
 ghost use Rattle.log_image.specs.Fronts.{FrontIs, head_fault, pair_at};
 ghost use Rattle.log_image.specs.Steps.{has_rest, stands};
 

@@ -1,7 +1,7 @@
 //! Reading the map that a log holds.
 ghost use Rattle.std.specs.Prelude.{◌≡◌, ◌≤◌, ◌+◌, slice_index, length};
 ghost use Rattle.tier_outside.specs.Causes.{Rose};
-ghost use Rattle.tier_outside.specs.Moments.{Now};
+ghost use Rattle.tier_outside.specs.DiskMoments.{Now};
 ghost use Rattle.log_image.specs.Calls.{ReadEnds};
 ghost use Rattle.log_image.specs.Rebuilding.{RebuildEnds, ReplayEnds, told};
 

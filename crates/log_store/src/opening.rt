@@ -1,13 +1,12 @@
 //! How a disk is opened as a log: it is restarted and looked at, and then it is formatted, read, or refused.
 ghost use Rattle.std.specs.Prelude.{◌≡◌, ◌+◌, ◌≤◌, [], IfOk, IfErr, OnOk};
 ghost use Rattle.tier_outside.specs.Causes.{HasCause, Rose};
-ghost use Rattle.tier_outside.specs.Disk.{IsImage, Restarts};
-ghost use Rattle.tier_outside.specs.Moments.{Now, Then};
-ghost use Rattle.gate_journal.specs.Stands.{Leaves};
+ghost use Rattle.tier_outside.specs.Disk.{IsImage, Restarts, IsSettled};
+ghost use Rattle.tier_outside.specs.DiskMoments.{Now, Then, Leaves, SomeImage};
 ghost use Rattle.log_image.specs.Fronts.{FrontIs};
 ghost use Rattle.log_image.specs.Images.{HoldsLog};
-ghost use Rattle.log_image.specs.Standing.{IsLogJournal, IsSettled, LogStands};
-ghost use Rattle.log_store.specs.Opens.{KeepsRefused, Left, NotReread, OpensAs, OpeningStops, Refused, PeekEnds};
+ghost use Rattle.log_image.specs.Standing.{IsLogJournal, LogStands};
+ghost use Rattle.log_store.specs.Opens.{KeepsRefused, NotReread, OpensAs, OpeningStops, Refused, PeekEnds};
 
 use crate::{AttachFault, Found};
 use gate_journal::Journal;
@@ -56,7 +55,7 @@ pub(crate) fn open<D: Disk>(
     role: Pool,
     pair: u64,
 ) -> Result<(Journal, PoolMap), AttachFault>
-    ensures opened { IfOk result (λ opened. Left (D.moments disk.old) (OpensAs role pair (record { table = opened.1.table; used = opened.0.next + 1 }))) }
+    ensures opened { IfOk result (λ opened. SomeImage (D.moments disk.old) (OpensAs role pair (record { table = opened.1.table; used = opened.0.next + 1 }))) }
     ensures journal { IfOk result (λ opened. IsLogJournal opened.0) }
     ensures rested { IfOk result (λ opened. opened.1.ready ≡ []) }
     ensures stands { IfOk result (λ opened. Now (D.moments disk.new) (LogStands role pair opened.0 opened.1.table)) }
@@ -102,7 +101,7 @@ pub(crate) fn reread<D: Disk>(
     role: Pool,
     pair: u64,
 ) -> Result<(Journal, PoolMap), StoreFault>
-    ensures read { IfOk result (λ opened. Left (D.moments disk.old) (λ image. HoldsLog role pair image (record { table = opened.1.table; used = opened.0.next + 1 }))) }
+    ensures read { IfOk result (λ opened. SomeImage (D.moments disk.old) (λ image. HoldsLog role pair image (record { table = opened.1.table; used = opened.0.next + 1 }))) }
     ensures journal { IfOk result (λ opened. IsLogJournal opened.0) }
     ensures rested { IfOk result (λ opened. opened.1.ready ≡ []) }
     ensures stands { IfOk result (λ opened. Now (D.moments disk.new) (LogStands role pair opened.0 opened.1.table)) }

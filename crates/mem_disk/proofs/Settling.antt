@@ -4,7 +4,7 @@ use Rattle.std.proofs.Common.{ap, ◌∙◌, sym, subst, arith}
 use Rattle.std.proofs.lemmas.Bool.Decides.{nat_tests}
 use Rattle.std.proofs.lemmas.Grind.{common_steps}
 use Rattle.std.proofs.lemmas.List.{ext_get_or}
-use Rattle.tier_outside.specs.Disk.{Draft, IsImage, Restarts, is_touched, resized, settled}
+use Rattle.tier_outside.specs.Disk.{DiskMoment, IsImage, Restarts, is_touched, resized, settled}
 use Rattle.tier_outside.proofs.DiskImages.{length_resized}
 use Rattle.mem_disk.specs.declared.pick.Pick.{Pick}
 use Rattle.mem_disk.specs.declared.pick.Pick.TheVariants.{Old, New, Mixed, Junk}
@@ -29,7 +29,7 @@ copied_unsettled ranges low size from old now new is one two =
     (copied_again _ _ from old now new one two)
 
 -- what was not settled was copied: all is the same
-pub all_copied : (d : Draft) (new : List ℕ) → length d.stable ≡ length d.content → SettledBelow d
+pub all_copied : (d : DiskMoment) (new : List ℕ) → length d.stable ≡ length d.content → SettledBelow d
     → CopiedIn (is_unsettled d.touched d.low) d.content d.stable new → new ≡ d.content
 all_copied d new same below both =
     ext_get_or 0 new d.content (both.size ∙ same) (λ i under. by_test i (omega (arith, both.size)) (is_unsettled d.touched d.low i) refl)
@@ -40,7 +40,7 @@ all_copied d new same below both =
         both.bytes i under ∙ ap (λ b. if b then slice_index d.content i else slice_index d.stable i) is ∙ sym (below i (omega arith) is)
 
 -- an image has the settled bytes below the least size and outside of the ranges
-pub image_below : (d : Draft) (image : List ℕ) (i : ℕ) → IsImage d image → is_unsettled d.touched d.low i ≡ false → slice_index image i ≡ slice_index d.stable i
+pub image_below : (d : DiskMoment) (image : List ℕ) (i : ℕ) → IsImage d image → is_unsettled d.touched d.low i ≡ false → slice_index image i ≡ slice_index d.stable i
 image_below d image i is none = is.kept i (below none) (outside none)
   where
     below : (is_touched d.touched i || nat_le d.low i) ≡ false → i < d.low
@@ -62,12 +62,12 @@ pub resized_index : (size : ℕ) (old : List ℕ) (i : ℕ) → i < size → sli
 resized_index size old i below = grind (arith, common_steps)
 
 -- a settled disk may be settled
-pub image_settled : (d : Draft) (size : ℕ) (stable : List ℕ) → IsImage d d.content → stable ≡ resized size d.stable → size ≡ length d.content → SettledBelow (record d { stable = stable })
+pub image_settled : (d : DiskMoment) (size : ℕ) (stable : List ℕ) → IsImage d d.content → stable ≡ resized size d.stable → size ≡ length d.content → SettledBelow (record d { stable = stable })
 image_settled d size stable is same long i below none =
     image_below d d.content i is none ∙ sym (resized_index size d.stable i (omega arith)) ∙ ap (λ xs. slice_index xs i) (sym same)
 
 -- what was chosen is what the pick leaves, and below it is settled
-pub picked_chosen : (pick : Pick) (d : Draft) (size : ℕ) (image : List ℕ) → IsImage d d.content → IsImage d d.stable → size ≡ picked_size pick (length d.stable) (length d.content)
+pub picked_chosen : (pick : Pick) (d : DiskMoment) (size : ℕ) (image : List ℕ) → IsImage d d.content → IsImage d d.stable → size ≡ picked_size pick (length d.stable) (length d.content)
     → ChosenIn pick (is_unsettled d.touched d.low) (resized size d.stable) (resized size d.content) image → Picked pick d image
 picked_chosen pick d size image content stable is chosen_in = record {
   size = long ∙ is;
@@ -84,7 +84,7 @@ picked_chosen pick d size image content stable is chosen_in = record {
         rw h (ap (λ o. chosen pick i o (slice_index (resized size d.content) i)) (resized_index size d.stable i under) ∙ ap (chosen pick i (slice_index d.stable i)) (resized_index size d.content i under))
     by_test i under false h = rw h (resized_index size d.content i under ∙ image_below d d.content i content h)
 
-pub settled_chosen : (pick : Pick) (d : Draft) (size : ℕ) (image : List ℕ) → IsImage d d.content
+pub settled_chosen : (pick : Pick) (d : DiskMoment) (size : ℕ) (image : List ℕ) → IsImage d d.content
     → ChosenIn pick (is_unsettled d.touched d.low) (resized size d.stable) (resized size d.content) image → SettledBelow (record d { content = image; stable = resized size d.stable })
 settled_chosen pick d size image content chosen_in i below none =
     chosen_in.bytes i (omega (arith, chosen_in.size)) ∙ ap (λ b. if b then chosen pick i (slice_index (resized size d.stable) i) (slice_index (resized size d.content) i) else slice_index (resized size d.content) i) none
@@ -93,12 +93,12 @@ settled_chosen pick d size image content chosen_in i below none =
     under : i < size
     under = omega (arith, chosen_in.size, length_resized size d.content)
 
-pub same_draft : (content stable : List ℕ) (touched : List (ℕ × ℕ)) (low high : ℕ) → stable ≡ content → touched ≡ [] → low ≡ length content → high ≡ length content
+pub same_moment : (content stable : List ℕ) (touched : List (ℕ × ℕ)) (low high : ℕ) → stable ≡ content → touched ≡ [] → low ≡ length content → high ≡ length content
     → record { content = content; stable = stable; touched = touched; low = low; high = high } ≡ settled content
-same_draft content stable touched low high s t l h = cc
+same_moment content stable touched low high s t l h = cc
 
 -- the same, by what the lists are
-pub picked_finish : (pick : Pick) (d : Draft) (size : ℕ) (stable content image final : List ℕ) → IsImage d d.content → IsImage d d.stable
+pub picked_finish : (pick : Pick) (d : DiskMoment) (size : ℕ) (stable content image final : List ℕ) → IsImage d d.content → IsImage d d.stable
     → size ≡ picked_size pick (length d.stable) (length d.content) → stable ≡ resized size d.stable → content ≡ resized size d.content
     → ChosenIn pick (is_unsettled d.touched d.low) stable content image → final ≡ image → Picked pick d final
 picked_finish pick d size stable content image final read still is s c chosen_in same =
@@ -108,7 +108,7 @@ picked_finish pick d size stable content image final read still is s c chosen_in
     (subst (λ xs. ChosenIn pick (is_unsettled d.touched d.low) stable xs image) c chosen_in)))
 
 -- what a pick leaves is an image
-pub picked_image : (pick : Pick) (d : Draft) (image : List ℕ) → IsSound d → Picked pick d image → IsImage d image
+pub picked_image : (pick : Pick) (d : DiskMoment) (image : List ℕ) → IsSound d → Picked pick d image → IsImage d image
 picked_image pick d image sound picked = record {
   no_shorter = omega (arith, picked.size, least pick, sound.reads.no_shorter, sound.keeps.no_shorter);
   no_longer = omega (arith, picked.size, most pick, sound.reads.no_longer, sound.keeps.no_longer);
@@ -134,5 +134,5 @@ picked_image pick d image sound picked = record {
         → (if is_unsettled d.touched d.low i then chosen pick i (slice_index d.stable i) (slice_index d.content i) else slice_index d.stable i) ≡ slice_index d.stable i
     stays i none = ap (λ b. if b then chosen pick i (slice_index d.stable i) (slice_index d.content i) else slice_index d.stable i) none
 
-pub picked_restarts : (pick : Pick) (d e : Draft) → IsSound d → Picked pick d e.content → e ≡ settled e.content → Restarts d e
+pub picked_restarts : (pick : Pick) (d e : DiskMoment) → IsSound d → Picked pick d e.content → e ≡ settled e.content → Restarts d e
 picked_restarts pick d e sound picked is = record { is = is; image = picked_image pick d e.content sound picked }

@@ -2,8 +2,8 @@
 use Rattle.std.specs.Prelude.{◌≡◌, ◌⊎◌, ℕ, ◌+◌, ◌-◌, ◌^◌, ◌/◌, Bool, true, false, ◌||◌, nat_eq, nat_lt, nat_le, min, List, [], ◌∷◌, ◌++◌, length, map, take, Option, Some, None, Result, OnOk, OnErr, is_ok, if◌then◌else◌}
 use Rattle.std.specs.List.{list_any}
 use Rattle.std.specs.declared.snapshot.Snapshot.{Snapshot}
-use Rattle.tier_outside.specs.Disk.{Draft, IsImage, settled, written, resized}
-use Rattle.tier_outside.specs.Moments.{last}
+use Rattle.tier_outside.specs.Disk.{DiskMoment, IsImage, settled, written, resized}
+use Rattle.tier_outside.specs.DiskMoments.{last}
 use Rattle.mem_disk.specs.declared.pick.Pick.{Pick}
 use Rattle.mem_disk.specs.declared.state.State.{State}
 
@@ -38,21 +38,21 @@ is_due s = has_stopped s.stop (next s) || is_listed s
 abbrev pub restarted : Schedule → Schedule
 restarted s = record { calls = s.calls; fails = s.fails; stop = if has_stopped s.stop s.calls then None else s.stop }
 
-abbrev pub draft_of : State → Draft
-draft_of s = record { content = s.content.items; stable = s.stable.items; touched = s.touched.items; low = s.low; high = s.high }
+abbrev pub moment_of : State → DiskMoment
+moment_of s = record { content = s.content.items; stable = s.stable.items; touched = s.touched.items; low = s.low; high = s.high }
 
 -- the moments that are past, and now
-abbrev pub moments_of : List (Snapshot State) → State → List Draft
-moments_of past now = map (λ s. draft_of s.value) past ++ draft_of now ∷ []
+abbrev pub moments_of : List (Snapshot State) → State → List DiskMoment
+moments_of past now = map (λ s. moment_of s.value) past ++ moment_of now ∷ []
 
 -- what the disk reads as and what was settled are both images of the moment
-pub record IsSound (d : Draft) : Type 0 where
+pub record IsSound (d : DiskMoment) : Type 0 where
   pub reads : IsImage d d.content
   pub keeps : IsImage d d.stable
 
 -- a disk in memory: its moments, its faults, which of its calls fail, and what a restart leaves
 pub record Memory : Type 0 where
-  pub moments : List Draft
+  pub moments : List DiskMoment
   pub faults : ℕ
   pub schedule : Schedule
   pub pick : Pick
@@ -62,7 +62,7 @@ abbrev pub fresh : List ℕ → List ℕ → Option ℕ → Pick → Memory
 fresh bytes fails stop pick = record { moments = settled bytes ∷ []; faults = 0; schedule = record { calls = 0; fails = fails; stop = stop }; pick = pick }
 
 -- a disk in memory tells its moments
-abbrev pub told : Memory → Option (List Draft)
+abbrev pub told : Memory → Option (List DiskMoment)
 told m = Some m.moments
 
 -- one more fault

@@ -1,6 +1,6 @@
 -- What a stop leaves of the bytes that are not settled.
 use Rattle.std.specs.Prelude.{◌≡◌, ◌<◌, false, ℕ, ◌/◌, ◌%◌, ◌^◌, Bool, ◌==◌, ◌&&◌, ◌||◌, nat_le, nat_lt, List, length, slice_index, if◌then◌else◌}
-use Rattle.tier_outside.specs.Disk.{Draft, is_touched}
+use Rattle.tier_outside.specs.Disk.{DiskMoment, is_touched}
 use Rattle.mem_disk.specs.declared.pick.Pick.{Pick}
 use Rattle.mem_disk.specs.declared.pick.Pick.TheVariants.{Old, New, Mixed, Junk}
 
@@ -24,7 +24,7 @@ is_unsettled ranges low i = is_touched ranges i || nat_le low i
 
 -- What a stop leaves by this pick: each byte that is not settled is the chosen one, where a byte past an end counts as 0,
 -- and every other byte stays.
-pub record Picked (pick : Pick) (d : Draft) (image : List ℕ) : Type 0 where
+pub record Picked (pick : Pick) (d : DiskMoment) (image : List ℕ) : Type 0 where
   pub size : length image ≡ picked_size pick (length d.stable) (length d.content)
   pub bytes : (i : ℕ) → i < length image
       → slice_index image i ≡ (if is_unsettled d.touched d.low i then chosen pick i (slice_index d.stable i) (slice_index d.content i) else slice_index d.stable i)
@@ -45,5 +45,5 @@ pub record CopiedIn (test : ℕ → Bool) (from old new : List ℕ) : Type 0 whe
   pub bytes : (i : ℕ) → i < length old → slice_index new i ≡ (if test i then slice_index from i else slice_index old i)
 
 -- below the least size and outside of the ranges what the disk reads as is settled
-abbrev pub SettledBelow : Draft → Type 0
+abbrev pub SettledBelow : DiskMoment → Type 0
 SettledBelow d = (i : ℕ) → i < length d.content → is_unsettled d.touched d.low i ≡ false → slice_index d.content i ≡ slice_index d.stable i

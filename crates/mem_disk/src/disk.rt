@@ -2,8 +2,8 @@
 //! proved over any disk may be run over it with a stop at any call.
 ghost use Rattle.std.specs.Prelude.{◌≡◌, ◌⊎◌, ◌≤◌, ◌+◌, ◌-◌, ◌/◌, ◌^◌, min, max, nat_lt, if◌then◌else◌, List, ℕ, Option, length, take, IfOk, OnOk, OnErr, false};
 ghost use Rattle.tier_outside.specs.Causes.{HasCause, Rose};
-ghost use Rattle.tier_outside.specs.Disk.{Draft, IsImage, Writes, Cuts, Syncs, Restarts, Reads, written, resized};
-ghost use Rattle.tier_outside.specs.Moments.{Now, Then, Goes, last};
+ghost use Rattle.tier_outside.specs.Disk.{DiskMoment, IsImage, Writes, Cuts, Syncs, Restarts, Reads, written, resized};
+ghost use Rattle.tier_outside.specs.DiskMoments.{Now, Then, Goes, last};
 ghost use Rattle.mem_disk.specs.Memory.{Counts, CountsRestart, FailsWhereDue, FailsOrGrows, WroteHalf, CutHalf, fresh, is_due, is_listed, tallied};
 ghost use Rattle.mem_disk.specs.Memory as mem;
 ghost use Rattle.mem_disk.specs.Picks.{Picked};
@@ -37,7 +37,7 @@ pub struct MemDisk {
 
 impl Model for MemDisk {
     ghost use Rattle.tier_outside.specs.Disk.{IsImage};
-    ghost use Rattle.tier_outside.specs.Moments.{last};
+    ghost use Rattle.tier_outside.specs.DiskMoments.{last};
     ghost use Rattle.mem_disk.specs.Memory.{Memory};
 
     ghost Value = { Memory };
@@ -94,7 +94,7 @@ impl Disk for MemDisk {
     ghost use Rattle.std.specs.Prelude.{◌≡◌, ◌⊎◌, ◌≤◌, ◌+◌, ◌^◌, length, IfOk, OnOk, OnErr};
     ghost use Rattle.tier_outside.specs.Causes.{HasCause};
     ghost use Rattle.tier_outside.specs.Disk.{IsImage, Writes, Cuts, Syncs, Restarts, Reads, written, resized};
-    ghost use Rattle.tier_outside.specs.Moments.{Now, Then, Goes, last};
+    ghost use Rattle.tier_outside.specs.DiskMoments.{Now, Then, Goes, last};
     ghost use Rattle.mem_disk.specs.Memory.{Counts, CountsRestart, FailsWhereDue, FailsOrGrows, WroteHalf, CutHalf, is_due, is_listed, told};
     ghost use Rattle.mem_disk.specs.Picks.{Picked};
 

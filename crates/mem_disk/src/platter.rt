@@ -1,10 +1,10 @@
 //! What a disk in memory holds, at each moment so far. It keeps the moments that the trait of disks asks for; the past is known to proofs
 //! alone and takes no memory.
 ghost use Rattle.std.specs.Prelude.{◌≡◌, ◌≤◌, ◌+◌, ◌-◌, ◌^◌, Some, List, [], ◌∷◌, length, take, drop, min, max, OnOk, OnErr, IfOk};
-ghost use Rattle.tier_outside.specs.Disk.{Draft, IsImage, Writes, Cuts, Syncs, Restarts, Reads, settled, written, resized};
-ghost use Rattle.tier_outside.specs.Moments.{last, Goes};
+ghost use Rattle.tier_outside.specs.Disk.{DiskMoment, IsImage, Writes, Cuts, Syncs, Restarts, Reads, settled, written, resized};
+ghost use Rattle.tier_outside.specs.DiskMoments.{last, Goes};
 ghost use Rattle.mem_disk.specs.Picks.{Picked};
-ghost use Rattle.mem_disk.specs.Memory.{draft_of};
+ghost use Rattle.mem_disk.specs.Memory.{moment_of};
 
 use crate::pick::Pick;
 use crate::state::{State, cut, restart, settle, write};
@@ -21,18 +21,18 @@ pub struct Platter {
 
 impl Model for Platter {
     ghost use Rattle.std.specs.Prelude.{List};
-    ghost use Rattle.tier_outside.specs.Disk.{Draft};
-    ghost use Rattle.mem_disk.specs.Memory.{IsSound, draft_of, moments_of};
+    ghost use Rattle.tier_outside.specs.Disk.{DiskMoment};
+    ghost use Rattle.mem_disk.specs.Memory.{IsSound, moment_of, moments_of};
 
-    ghost Value = { List Draft };
+    ghost Value = { List DiskMoment };
 
     ghost view = { λ p. moments_of p.past.items p.state };
 
-    ghost invariant = { λ p. IsSound (draft_of p.state) };
+    ghost invariant = { λ p. IsSound (moment_of p.state) };
 }
 
 fn settled_state(alloc: Global, bytes: Vec<u8>) -> Result<State, AllocError>
-    ensures { IfOk result (λ s. draft_of s ≡ settled bytes.items) }
+    ensures { IfOk result (λ s. moment_of s ≡ settled bytes.items) }
 {
     let size = bytes.len();
     Ok(State {

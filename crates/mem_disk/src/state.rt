@@ -1,7 +1,7 @@
 //! The bytes of a disk in memory, and what of them is not settled.
 ghost use Rattle.std.specs.Prelude.{◌≡◌, ◌≤◌, ◌<◌, ◌+◌, ◌-◌, ◌^◌, length, take, OnOk, OnErr, vec_len, vec_capacity, false};
 ghost use Rattle.tier_outside.specs.Disk.{IsImage, reach, filled, replaced, written, resized, touch, trim, settled, is_touched};
-ghost use Rattle.mem_disk.specs.Memory.{draft_of};
+ghost use Rattle.mem_disk.specs.Memory.{moment_of};
 ghost use Rattle.mem_disk.specs.Picks.{CopiedIn, Picked, SettledBelow, is_between, is_unsettled};
 
 use crate::pick::{Pick, choose_unsettled, size_of};
@@ -76,8 +76,8 @@ fn overwrite(content: &mut Vec<u8>, off: usize, bytes: &[u8]) -> Result<(), Allo
 pub fn write(state: &mut State, off: usize, bytes: &[u8], done: usize) -> Result<(), AllocError>
     requires room { off + length bytes.now ≤ 2 ^ 41 }
     requires part { done ≤ length bytes.now }
-    ensures ok { OnOk result (draft_of state.new ≡ touch off (length bytes.now) (written off (take done bytes.now) state.old.content.items) (draft_of state.old)) }
-    ensures err { OnErr result (draft_of state.new ≡ draft_of state.old) }
+    ensures ok { OnOk result (moment_of state.new ≡ touch off (length bytes.now) (written off (take done bytes.now) state.old.content.items) (moment_of state.old)) }
+    ensures err { OnErr result (moment_of state.new ≡ moment_of state.old) }
 {
     state.touched.reserve(1)?;
     overwrite(&mut state.content, off, &bytes[..done])?;
@@ -88,8 +88,8 @@ pub fn write(state: &mut State, off: usize, bytes: &[u8], done: usize) -> Result
 
 /// A cut that goes as far as `part`; without memory nothing changes.
 pub fn cut(state: &mut State, size: usize, part: usize) -> Result<(), AllocError>
-    ensures ok { OnOk result (draft_of state.new ≡ trim size (resized part state.old.content.items) (draft_of state.old)) }
-    ensures err { OnErr result (draft_of state.new ≡ draft_of state.old) }
+    ensures ok { OnOk result (moment_of state.new ≡ trim size (resized part state.old.content.items) (moment_of state.old)) }
+    ensures err { OnErr result (moment_of state.new ≡ moment_of state.old) }
 {
     state.content.resize(part, 0)?;
     state.low = state.low.min(size);
@@ -131,8 +131,8 @@ fn copy_unsettled(to: &mut [u8], from: &[u8], ranges: &[(usize, usize)], low: us
 // All that the disk reads as is settled.
 fn finish(state: &mut State)
     requires size { length state.old.stable.items ≡ length state.old.content.items }
-    requires same { SettledBelow (draft_of state.old) }
-    ensures { draft_of state.new ≡ settled state.old.content.items }
+    requires same { SettledBelow (moment_of state.old) }
+    ensures { moment_of state.new ≡ settled state.old.content.items }
 {
     let size = state.content.len();
     copy_unsettled(&mut state.stable, &state.content, &state.touched, state.low);
@@ -143,9 +143,9 @@ fn finish(state: &mut State)
 
 /// Settles what the disk reads as; without memory nothing changes.
 pub fn settle(state: &mut State) -> Result<(), AllocError>
-    requires { IsImage (draft_of state.old) state.old.content.items }
-    ensures ok { OnOk result (draft_of state.new ≡ settled state.old.content.items) }
-    ensures err { OnErr result (draft_of state.new ≡ draft_of state.old) }
+    requires { IsImage (moment_of state.old) state.old.content.items }
+    ensures ok { OnOk result (moment_of state.new ≡ settled state.old.content.items) }
+    ensures err { OnErr result (moment_of state.new ≡ moment_of state.old) }
 {
     let size = state.content.len();
     make_room(&mut state.stable, size)?;
@@ -156,10 +156,10 @@ pub fn settle(state: &mut State) -> Result<(), AllocError>
 
 /// Settles what a stop leaves by a pick; without memory nothing changes.
 pub fn restart(state: &mut State, pick: Pick) -> Result<(), AllocError>
-    requires content { IsImage (draft_of state.old) state.old.content.items }
-    requires stable { IsImage (draft_of state.old) state.old.stable.items }
-    ensures ok { OnOk result (Picked pick (draft_of state.old) state.new.content.items × (draft_of state.new ≡ settled state.new.content.items)) }
-    ensures err { OnErr result (draft_of state.new ≡ draft_of state.old) }
+    requires content { IsImage (moment_of state.old) state.old.content.items }
+    requires stable { IsImage (moment_of state.old) state.old.stable.items }
+    ensures ok { OnOk result (Picked pick (moment_of state.old) state.new.content.items × (moment_of state.new ≡ settled state.new.content.items)) }
+    ensures err { OnErr result (moment_of state.new ≡ moment_of state.old) }
 {
     let size = size_of(pick, state.stable.len(), state.content.len());
     make_room(&mut state.content, size)?;

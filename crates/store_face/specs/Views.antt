@@ -1,6 +1,7 @@
 -- What is known of a store: what a crash may leave of it, moment by moment, and its room.
-use Rattle.std.specs.Prelude.{◌≡◌, ℕ, Bool, true, List, [], ◌∷◌, ◌++◌, Option, Some, None}
+use Rattle.std.specs.Prelude.{◌≡◌, ℕ, Bool, true, List, Option}
 use Rattle.std.specs.FinMap as fin
+use Rattle.tier_outside.specs.Moments as moments
 use Rattle.obj_model.specs.declared.change.Change.{Change}
 use Rattle.store_face.specs.Limits.{IsPoolMap}
 use Rattle.store_face.specs.Rooms.{BlockLacks, BlockRoom, Lack, LogLacks, LogRoom, Room, Uses}
@@ -34,15 +35,13 @@ pub record StoreView : Type 0 where
   pub room : Room
   pub used : ℕ
 
--- the moment now
-abbrev pub last : List CrashMaps → CrashMaps
-last [] = alone (record { table = fin.empty; used = 0 })
-last (s ∷ []) = s
-last (s ∷ t ∷ ss) = last (t ∷ ss)
+-- what stands for the moment now of a store that has none yet: no map
+abbrev pub no_map : CrashMaps
+no_map = alone (record { table = fin.empty; used = 0 })
 
 -- where the store tells, the moment now has P
 abbrev pub Now : StoreView → (CrashMaps → Type 0) → Type 0
-Now v P = elim v.moments [ None ↦ Unit {0} | Some ss ↦ P (last ss) ]
+Now v P = moments.Now no_map v.moments P
 
 -- where the store tells, its one map has P; this is said of a live store
 abbrev pub Holds : StoreView → (Table → Type 0) → Type 0
@@ -65,18 +64,6 @@ Lacks v changes lack = elim v.room [
     | BlockRoom blocks area ↦ Holds v (λ t. BlockLacks blocks area t changes lack)
   ]
 
--- more moments came; a store that does not tell still does not
-abbrev pub grown : Option (List CrashMaps) → List CrashMaps → Option (List CrashMaps)
-grown None more = None
-grown (Some ss) more = Some (ss ++ more)
-
--- each of these moments has P
-abbrev pub EachMoment : List CrashMaps → (CrashMaps → Type 0) → Type 0
-EachMoment [] P = Unit {0}
-EachMoment (s ∷ ss) P = P s × EachMoment ss P
-
--- more moments came, and where the store tells each of them has P of the moment that was now
-pub record Grows (old new : StoreView) (P : CrashMaps → CrashMaps → Type 0) : Type 0 where
-  pub more : List CrashMaps
-  pub grew : new.moments ≡ grown old.moments more
-  pub each : Now old (λ was. EachMoment more (P was))
+-- more moments came, and where the store tells each of them stands so to the one that was now
+abbrev pub Grows : StoreView → StoreView → (CrashMaps → CrashMaps → Type 0) → Type 0
+Grows old new P = moments.Grows no_map old.moments new.moments P

@@ -5,7 +5,7 @@ use Rattle.std.proofs.Common.{inl, inr, ap, ◌∙◌, sym, subst, arith}
 use Rattle.std.proofs.lemmas.Bool.Decides.{nat_tests}
 use Rattle.std.proofs.lemmas.Grind.{common_steps}
 use Rattle.std.proofs.lemmas.List.{append_assoc, take_at, ext_get_or, get_or-take, get_or-drop, length-take, length-drop}
-use Rattle.tier_outside.specs.Disk.{filled, resized, trim, Draft, IsImage, FrontStands, SameOutside, Writes, Cuts, settled, touch, reach, is_touched, written}
+use Rattle.tier_outside.specs.Disk.{filled, resized, trim, DiskMoment, IsImage, FrontStands, SameOutside, Writes, Cuts, settled, touch, reach, is_touched, written}
 
 -- what is settled is the only image
 pub settled_only : (bytes image : List ℕ) → IsImage (settled bytes) image → image ≡ bytes
@@ -35,7 +35,7 @@ pub one_range : (range : ℕ × ℕ) (i : ℕ) → (nat_le range.0 i && nat_lt i
 one_range range i none = rw none refl
 
 -- an image has the front that stands
-pub front_image : (count : ℕ) (d : Draft) (image : List ℕ) → FrontStands count d → IsImage d image → take count image ≡ take count d.stable
+pub front_image : (count : ℕ) (d : DiskMoment) (image : List ℕ) → FrontStands count d → IsImage d image → take count image ≡ take count d.stable
 front_image count d image stands is =
     ext_get_or 0 (take count image) (take count d.stable)
     (omega (arith, length-take count image, length-take count d.stable, stands.within, stands.there, is.no_shorter))
@@ -48,7 +48,7 @@ pub settled_front : (count : ℕ) (bytes : List ℕ) → count ≤ length bytes 
 settled_front count bytes within = record { there = within; within = within; untouched = λ i below. refl }
 
 -- a write behind the front leaves it standing
-pub write_front : (count off size : ℕ) (d e : Draft) → FrontStands count d → count ≤ off → Writes off size d e → FrontStands count e
+pub write_front : (count off size : ℕ) (d e : DiskMoment) → FrontStands count d → count ≤ off → Writes off size d e → FrontStands count e
 write_front count off size d e stands behind wrote = subst (FrontStands count) (sym wrote.is) record {
   there = stands.there;
   within = stands.within;
@@ -60,7 +60,7 @@ write_front count off size d e stands behind wrote = subst (FrontStands count) (
     outside i below = grind (arith, nat_tests)
 
 -- and so does a cut behind it
-pub cut_front : (count size : ℕ) (d e : Draft) → FrontStands count d → count ≤ size → Cuts size d e → FrontStands count e
+pub cut_front : (count size : ℕ) (d e : DiskMoment) → FrontStands count d → count ≤ size → Cuts size d e → FrontStands count e
 cut_front count size d e stands behind trimmed = subst (FrontStands count) (sym trimmed.is) record {
   there = stands.there;
   within = omega (arith, stands.within);
@@ -68,14 +68,14 @@ cut_front count size d e stands behind trimmed = subst (FrontStands count) (sym 
 }
 
 -- neither settles anything
-pub write_stable : (off size : ℕ) (d e : Draft) → Writes off size d e → e.stable ≡ d.stable
+pub write_stable : (off size : ℕ) (d e : DiskMoment) → Writes off size d e → e.stable ≡ d.stable
 write_stable off size d e wrote = ap (λ x. x.stable) wrote.is
 
-pub cut_stable : (size : ℕ) (d e : Draft) → Cuts size d e → e.stable ≡ d.stable
+pub cut_stable : (size : ℕ) (d e : DiskMoment) → Cuts size d e → e.stable ≡ d.stable
 cut_stable size d e trimmed = ap (λ x. x.stable) trimmed.is
 
 -- what a disk reads as stays an image over a write
-pub write_image : (off size : ℕ) (d e : Draft) → IsImage d d.content → Writes off size d e → IsImage e e.content
+pub write_image : (off size : ℕ) (d e : DiskMoment) → IsImage d d.content → Writes off size d e → IsImage e e.content
 write_image off size d e was wrote = subst (λ x. IsImage x e.content) (sym wrote.is) record {
   no_shorter = omega (arith, was.no_shorter, wrote.part.no_shorter);
   no_longer = omega (arith, was.no_longer, wrote.part.no_longer);
@@ -85,7 +85,7 @@ write_image off size d e was wrote = subst (λ x. IsImage x e.content) (sym wrot
 }
 
 -- and over a cut
-pub cut_image : (size : ℕ) (d e : Draft) → IsImage d d.content → Cuts size d e → IsImage e e.content
+pub cut_image : (size : ℕ) (d e : DiskMoment) → IsImage d d.content → Cuts size d e → IsImage e e.content
 cut_image size d e was trimmed = subst (λ x. IsImage x e.content) (sym trimmed.is) record {
   no_shorter = omega (arith, was.no_shorter, trimmed.part.no_shorter);
   no_longer = omega (arith, was.no_longer, trimmed.part.no_longer);
@@ -122,7 +122,7 @@ inside_settled off size old now image within is = record {
     after i = grind (arith, nat_tests)
 
 -- a write within a settled disk leaves all that stands outside of its range, whatever a stop leaves in it
-pub inside_image : (off size : ℕ) (d e : Draft) (image : List ℕ) → d ≡ settled d.content → off + size ≤ length d.content → Writes off size d e → IsImage e image → SameOutside off size d.content image
+pub inside_image : (off size : ℕ) (d e : DiskMoment) (image : List ℕ) → d ≡ settled d.content → off + size ≤ length d.content → Writes off size d e → IsImage e image → SameOutside off size d.content image
 inside_image off size d e image whole within wrote is =
     inside_settled off size d.content e.content image within (subst (λ x. IsImage x image) (wrote.is ∙ ap (touch off size e.content) whole) is)
 

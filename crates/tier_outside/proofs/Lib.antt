@@ -1,3 +1,4 @@
 pub mod DiskImages
 pub mod Moments
+pub mod DiskMoments
 pub mod Streams

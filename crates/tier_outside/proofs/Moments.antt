@@ -1,146 +1,149 @@
--- Laws of the clock: how promises on each image of each moment go on from call to call.
-use Rattle.std.specs.Prelude.{◌≡◌, ◌≤◌, ℕ, List, [], ◌∷◌, ◌++◌, length, Option, Some, None, refl}
-use Rattle.std.proofs.Common.{ap, ◌∙◌, sym, subst, inl, inr, arith}
-use Rattle.std.proofs.lemmas.List.{append-nil, append_assoc, append_cancel_left, length-append}
-use Rattle.tier_outside.specs.Disk.{Draft, EachImage, IsImage, Restarts, Syncs}
-use Rattle.tier_outside.proofs.DiskImages.{settled_only}
-use Rattle.tier_outside.specs.Moments.{last, Now, Then, grown, Goes, EachMoment, Since, clock}
+-- Laws of a clock of moments: how promises on each moment go on from call to call.
+use Rattle.std.specs.Prelude.{◌≡◌, List, [], ◌∷◌, ◌++◌, Option, Some, None, refl}
+use Rattle.std.proofs.Common.{ap, ◌∙◌, sym, subst, inl, inr}
+use Rattle.std.proofs.lemmas.List.{append-nil, append_assoc, append_cancel_left}
+use Rattle.tier_outside.specs.Moments.{last, Now, Then, grown, Goes, Each, Since, Grows}
+
+-- ---- the moment now
 
 -- the newest moment is now
-pub last_push : (ds : List Draft) (d : Draft) → last (ds ++ d ∷ []) ≡ d
-last_push [] d = refl
-last_push (x ∷ []) d = refl
-last_push (x ∷ y ∷ ds) d = last_push (y ∷ ds) d
+pub last_push : {M : Type 0} (start : M) (ms : List M) (m : M) → last start (ms ++ m ∷ []) ≡ m
+last_push start [] m = refl
+last_push start (x ∷ ms) m = last_push x ms m
 
-pub grown_none : (old : Option (List Draft)) → old ≡ grown old []
+-- behind others, moments that came end as they end alone
+pub last_behind : {M : Type 0} (start : M) (ms : List M) (m : M) (more : List M) → last start (ms ++ m ∷ more) ≡ last m more
+last_behind start [] m more = refl
+last_behind start (x ∷ ms) m more = last_behind x ms m more
+
+-- what each moment has, the last has
+pub last_each : {M : Type 0} (m : M) (more : List M) (P : M → Type 0) → P m → Each more P → P (last m more)
+last_each m [] P here each = here
+last_each m (x ∷ more) P here each = last_each x more P each.0 each.1
+
+-- what follows of the moment now
+pub now_weaker : {M : Type 0} (start : M) (a : Option (List M)) (P Q : M → Type 0) → ((m : M) → P m → Q m) → Now start a P → Now start a Q
+now_weaker start None P Q weaker now = tt
+now_weaker start (Some ms) P Q weaker now = weaker (last start ms) now
+
+-- two facts of the moment now
+pub now_two : {M : Type 0} (start : M) (a : Option (List M)) (P Q R : M → Type 0) → ((m : M) → P m → Q m → R m)
+    → Now start a P → Now start a Q → Now start a R
+now_two start None P Q R both one two = tt
+now_two start (Some ms) P Q R both one two = both (last start ms) one two
+
+pub now_same : {M : Type 0} (start : M) (a b : Option (List M)) (P : M → Type 0) → a ≡ b → Now start a P → Now start b P
+now_same start a b P same now = subst (λ ms. Now start ms P) same now
+
+-- ---- more moments
+
+pub grown_none : {M : Type 0} (old : Option (List M)) → old ≡ grown old []
 grown_none None = refl
-grown_none (Some ds) = ap Some (sym (append-nil ds))
+grown_none (Some ms) = ap Some (sym (append-nil ms))
 
-pub grown_twice : (old : Option (List Draft)) (more again : List Draft) → grown (grown old more) again ≡ grown old (more ++ again)
+pub grown_twice : {M : Type 0} (old : Option (List M)) (more again : List M) → grown (grown old more) again ≡ grown old (more ++ again)
 grown_twice None more again = refl
-grown_twice (Some ds) more again = ap Some (append_assoc ds more again)
+grown_twice (Some ms) more again = ap Some (append_assoc ms more again)
 
-pub each_both : (ds es : List Draft) (P : List ℕ → Type 0) → EachMoment ds P → EachMoment es P → EachMoment (ds ++ es) P
-each_both [] es P left right = right
-each_both (d ∷ ds) es P left right = (left.0, each_both ds es P left.1 right)
+pub grown_cancel : {M : Type 0} (a : Option (List M)) (ms more again : List M) → a ≡ Some ms → grown a more ≡ grown a again → more ≡ again
+grown_cancel None ms more again some same = cc
+grown_cancel {M} (Some xs) ms more again some same =
+    let lists : xs ++ more ≡ xs ++ again = cc in append_cancel_left xs more again lists
 
-pub each_weaker : (ds : List Draft) (P Q : List ℕ → Type 0) → ((image : List ℕ) → P image → Q image) → EachMoment ds P → EachMoment ds Q
+pub each_both : {M : Type 0} (ms more : List M) (P : M → Type 0) → Each ms P → Each more P → Each (ms ++ more) P
+each_both [] more P left right = right
+each_both (m ∷ ms) more P left right = (left.0, each_both ms more P left.1 right)
+
+pub each_weaker : {M : Type 0} (ms : List M) (P Q : M → Type 0) → ((m : M) → P m → Q m) → Each ms P → Each ms Q
 each_weaker [] P Q weaker each = tt
-each_weaker (d ∷ ds) P Q weaker each = (λ image is. weaker image (each.0 image is), each_weaker ds P Q weaker each.1)
+each_weaker (m ∷ ms) P Q weaker each = (weaker m each.0, each_weaker ms P Q weaker each.1)
+
+pub each_two : {M : Type 0} (ms : List M) (P Q R : M → Type 0) → ((m : M) → P m → Q m → R m) → Each ms P → Each ms Q → Each ms R
+each_two [] P Q R both one two = tt
+each_two (m ∷ ms) P Q R both one two = (both m one.0 two.0, each_two ms P Q R both one.1 two.1)
+
+-- ---- each moment since
 
 -- nothing happened yet
-pub since_start : (a : Option (List Draft)) (P : List ℕ → Type 0) → Since a a P
+pub since_start : {M : Type 0} (a : Option (List M)) (P : M → Type 0) → Since a a P
 since_start a P = record { more = []; grew = grown_none a; each = tt }
 
 -- a weaker promise holds too
-pub since_weaker : (a b : Option (List Draft)) (P Q : List ℕ → Type 0) → ((image : List ℕ) → P image → Q image) → Since a b P → Since a b Q
-since_weaker a b P Q weaker since = record { more = since.more; grew = since.grew; each = each_weaker since.more P Q weaker since.each }
+pub since_weaker : {M : Type 0} (a b : Option (List M)) (P Q : M → Type 0) → ((m : M) → P m → Q m) → Since a b P → Since a b Q
+since_weaker a b P Q weaker since =
+    record { more = since.more; grew = since.grew; each = each_weaker since.more P Q weaker since.each }
 
 -- a promise goes on over what comes after
-pub since_trans : (a b c : Option (List Draft)) (P : List ℕ → Type 0) → Since a b P → Since b c P → Since a c P
+pub since_trans : {M : Type 0} (a b c : Option (List M)) (P : M → Type 0) → Since a b P → Since b c P → Since a c P
 since_trans a b c P one two = record {
   more = one.more ++ two.more;
-  grew = two.grew ∙ ap (λ ds. grown ds two.more) one.grew ∙ grown_twice a one.more two.more;
+  grew = two.grew ∙ ap (λ ms. grown ms two.more) one.grew ∙ grown_twice a one.more two.more;
   each = each_both one.more two.more P one.each two.each;
 }
 
 -- a call that changes nothing
-pub since_same : (a b c : Option (List Draft)) (P : List ℕ → Type 0) → Since a b P → c ≡ b → Since a c P
+pub since_same : {M : Type 0} (a b c : Option (List M)) (P : M → Type 0) → Since a b P → c ≡ b → Since a c P
 since_same a b c P since same = record { more = since.more; grew = same ∙ since.grew; each = since.each }
 
 -- one call: each moment that may follow has the promise
-pub since_call : (step : Draft → Draft → Type 0) (a b : Option (List Draft)) (P : List ℕ → Type 0)
-    → Goes step a b → Now a (λ d. (e : Draft) → step d e → EachImage e P) → Since a b P
-since_call step a b P (inl same) follows = since_same a a b P (since_start a P) same
-since_call step None b P (inr went) follows = record { more = []; grew = went.1; each = tt }
-since_call step (Some ds) b P (inr went) follows =
+pub since_call : {M : Type 0} (start : M) (step : M → M → Type 0) (a b : Option (List M)) (P : M → Type 0)
+    → Goes start step a b → Now start a (λ d. (e : M) → step d e → P e) → Since a b P
+since_call start step a b P (inl same) follows = since_same a a b P (since_start a P) same
+since_call start step None b P (inr went) follows = record { more = []; grew = went.1; each = tt }
+since_call start step (Some ms) b P (inr went) follows =
     record { more = went.0 ∷ []; grew = went.1; each = (follows went.0 went.2, tt) }
 
--- a promise goes on over one more call
-pub since_step : (step : Draft → Draft → Type 0) (a b c : Option (List Draft)) (P : List ℕ → Type 0)
-    → Since a b P → Goes step b c → Now b (λ d. (e : Draft) → step d e → EachImage e P) → Since a c P
-since_step step a b c P since goes follows = since_trans a b c P since (since_call step b c P goes follows)
-
-pub grown_cancel : (a : Option (List Draft)) (ds : List Draft) (more again : List Draft) → a ≡ Some ds → grown a more ≡ grown a again → more ≡ again
-grown_cancel None ds more again some same = cc
-grown_cancel (Some xs) ds more again some same =
-    let lists : xs ++ more ≡ xs ++ again = cc in append_cancel_left xs more again lists
-
 -- two promises hold together
-pub since_both : (a b : Option (List Draft)) (P Q : List ℕ → Type 0) → Since a b P → Since a b Q → Since a b (λ image. P image × Q image)
-since_both None b P Q one two = record { more = []; grew = one.grew; each = tt }
-since_both (Some ds) b P Q one two = record {
-  more = one.more;
-  grew = one.grew;
-  each = zip one.more one.each (subst (λ ms. EachMoment ms Q) (sym same) two.each);
-}
+pub since_two : {M : Type 0} (a b : Option (List M)) (P Q R : M → Type 0) → ((m : M) → P m → Q m → R m)
+    → Since a b P → Since a b Q → Since a b R
+since_two None b P Q R both one two = record { more = []; grew = one.grew; each = tt }
+since_two (Some ms) b P Q R both one two =
+    let same = grown_cancel (Some ms) ms one.more two.more refl (sym one.grew ∙ two.grew) in
+    record { more = one.more; grew = one.grew; each = each_two one.more P Q R both one.each (subst (λ more. Each more Q) (sym same) two.each) }
+
+-- what the moment now had and each since has, the moment now has
+pub now_since : {M : Type 0} (start : M) (a b : Option (List M)) (P : M → Type 0) → Now start a P → Since a b P → Now start b P
+now_since start None b P was since = now_same start None b P (sym since.grew) tt
+now_since start (Some ms) b P was since = now_same start (Some (ms ++ since.more)) b P (sym since.grew) (at since.more since.each)
   where
-    same : one.more ≡ two.more
-    same = grown_cancel (Some ds) ds one.more two.more refl (sym one.grew ∙ two.grew)
-
-    zip : (ms : List Draft) → EachMoment ms P → EachMoment ms Q → EachMoment ms (λ image. P image × Q image)
-    zip [] left right = tt
-    zip (m ∷ ms) left right = (λ image is. (left.0 image is, right.0 image is), zip ms left.1 right.1)
-
--- what each image had and has since, each image has now
-pub now_since : (a b : Option (List Draft)) (P : List ℕ → Type 0) → Now a (λ d. EachImage d P) → Since a b P → Now b (λ d. EachImage d P)
-now_since None b P was since = subst (λ ms. Now ms (λ d. EachImage d P)) (sym since.grew) tt
-now_since (Some ds) b P was since = subst (λ ms. Now ms (λ d. EachImage d P)) (sym since.grew) (at since.more ds was since.each)
-  where
-    at : (more ds : List Draft) → EachImage (last ds) P → EachMoment more P → EachImage (last (ds ++ more)) P
-    at [] ds old each = subst (λ ms. EachImage (last ms) P) (sym (append-nil ds)) old
-    at (m ∷ more) ds old each =
-        subst (λ ms. EachImage (last ms) P) (append_assoc ds (m ∷ []) more)
-        (at more (ds ++ m ∷ []) (subst (λ d. EachImage d P) (sym (last_push ds m)) each.0) each.1)
-
--- what follows of the moment now
-pub now_weaker : (a : Option (List Draft)) (P Q : Draft → Type 0) → ((d : Draft) → P d → Q d) → Now a P → Now a Q
-now_weaker None P Q weaker now = tt
-now_weaker (Some ds) P Q weaker now = weaker (last ds) now
-
-pub now_both : (a : Option (List Draft)) (P Q : Draft → Type 0) → Now a P → Now a Q → Now a (λ d. P d × Q d)
-now_both None P Q one two = tt
-now_both (Some ds) P Q one two = (one, two)
+    at : (more : List _) → Each more P → P (last start (ms ++ more))
+    at [] each = subst (λ xs. P (last start xs)) (sym (append-nil ms)) was
+    at (m ∷ more) each = subst P (sym (last_behind start ms m more)) (last_each m more P each.0 each.1)
 
 -- the moment after a call: it is that before, or one that follows by the step
-pub now_call : (step : Draft → Draft → Type 0) (a b : Option (List Draft)) (P Q : Draft → Type 0)
-    → Goes step a b → Now a P → ((d : Draft) → P d → Q d) → ((d e : Draft) → P d → step d e → Q e) → Now b Q
-now_call step a b P Q (inl same) was stays follows = subst (λ ms. Now ms Q) (sym same) (now_weaker a P Q stays was)
-now_call step None b P Q (inr went) was stays follows = subst (λ ms. Now ms Q) (sym went.1) tt
-now_call step (Some ds) b P Q (inr went) was stays follows =
-    subst (λ ms. Now ms Q) (sym went.1) (subst Q (sym (last_push ds went.0)) (follows (last ds) went.0 was went.2))
+pub now_call : {M : Type 0} (start : M) (step : M → M → Type 0) (a b : Option (List M)) (P Q : M → Type 0)
+    → Goes start step a b → Now start a P → ((m : M) → P m → Q m) → ((m n : M) → P m → step m n → Q n) → Now start b Q
+now_call start step a b P Q (inl same) was stays follows = now_same start a b Q (sym same) (now_weaker start a P Q stays was)
+now_call start step None b P Q (inr went) was stays follows = now_same start None b Q (sym went.1) tt
+now_call start step (Some ms) b P Q (inr went) was stays follows =
+    now_same start (Some (ms ++ went.0 ∷ [])) b Q (sym went.1)
+    (subst Q (sym (last_push start ms went.0)) (follows (last start ms) went.0 was went.2))
 
 -- the moment after a call, by what the call says of both
-pub now_done : (step R : Draft → Draft → Type 0) (a b : Option (List Draft)) (P Q : Draft → Type 0)
-    → Goes step a b → Then a b R → Now a P → ((d e : Draft) → P d → R d e → Q e) → Now b Q
-now_done step R None b P Q (inl same) done was follows = subst (λ ms. Now ms Q) (sym same) tt
-now_done step R None b P Q (inr went) done was follows = subst (λ ms. Now ms Q) (sym went.1) tt
-now_done step R (Some ds) None P Q goes done was follows = tt
-now_done step R (Some ds) (Some es) P Q goes done was follows = follows (last ds) (last es) was done
+pub now_done : {M : Type 0} (start : M) (step R : M → M → Type 0) (a b : Option (List M)) (P Q : M → Type 0)
+    → Goes start step a b → Then start a b R → Now start a P → ((m n : M) → P m → R m n → Q n) → Now start b Q
+now_done start step R None b P Q (inl same) done was follows = now_same start None b Q (sym same) tt
+now_done start step R None b P Q (inr went) done was follows = now_same start None b Q (sym went.1) tt
+now_done start step R (Some ms) None P Q goes done was follows = tt
+now_done start step R (Some ms) (Some ns) P Q goes done was follows = follows (last start ms) (last start ns) was done
 
--- the clock never falls
-pub clock_since : (a b : Option (List Draft)) (P : List ℕ → Type 0) → Since a b P → clock a ≤ clock b
-clock_since None b P since = omega arith
-clock_since (Some ds) b P since = subst (λ ms. length ds ≤ clock ms) (sym since.grew) (omega (arith, length-append ds since.more))
+-- ---- each moment since, beside the one that was now
 
-pub clock_call : (step : Draft → Draft → Type 0) (a b : Option (List Draft)) → Goes step a b → clock a ≤ clock b
-clock_call step a b (inl same) = subst (λ ms. clock a ≤ clock ms) (sym same) (omega arith)
-clock_call step None b (inr went) = omega arith
-clock_call step (Some ds) b (inr went) = subst (λ ms. length ds ≤ clock ms) (sym went.1) (omega (arith, length-append ds (went.0 ∷ [])))
+-- what each moment that came has, and the one that was now, the moment now has
+pub grows_now : {M : Type 0} (start : M) (a b : Option (List M)) (P Q : M → M → Type 0) → Grows start a b P
+    → Now start a (λ was. Q was was) → ((was m : M) → P was m → Q was m) → Then start a b Q
+grows_now start None b P Q grows was weaker = tt
+grows_now start (Some ms) b P Q grows was weaker =
+    let w = last start ms in
+    now_since start (Some ms) b (Q w) was
+    (record { more = grows.more; grew = grows.grew; each = each_weaker grows.more (P w) (Q w) (weaker w) grows.each })
 
--- a sync adds no image
-pub since_sync : (a b c : Option (List Draft)) (P : List ℕ → Type 0)
-    → Now a (λ d. EachImage d P) → Since a b P → Now b (λ d. IsImage d d.content) → Goes Syncs b c → Since a c P
-since_sync a b c P was since reads goes =
-    since_step Syncs a b c P since goes
-    (now_weaker b (λ d. EachImage d P × IsImage d d.content) _
-    (λ d both e settles image is. subst P (sym (settled_only d.content image (subst (λ x. IsImage x image) settles is))) (both.0 d.content both.1))
-    (now_both b _ _ (now_since a b P was since) reads))
-
--- nor does a restart
-pub since_restart : (a b c : Option (List Draft)) (P : List ℕ → Type 0) → Now a (λ d. EachImage d P) → Since a b P → Goes Restarts b c → Since a c P
-since_restart a b c P was since goes =
-    since_step Restarts a b c P since goes
-    (now_weaker b (λ d. EachImage d P) _
-    (λ d each e back image is. subst P (sym (settled_only e.content image (subst (λ x. IsImage x image) back.is is))) (each e.content back.image))
-    (now_since a b P was since))
+-- what stands between the moment now and that after a call, and between that and the one after the next
+pub then_then : {M : Type 0} (start : M) (a b c : Option (List M)) (more : List M) (P Q R : M → M → Type 0) → b ≡ grown a more
+    → ((x y z : M) → P x y → Q y z → R x z) → Then start a b P → Then start b c Q → Then start a c R
+then_then start None b c more P Q R grew both one two = tt
+then_then start (Some xs) b c more P Q R grew both one two =
+    let x = last start xs in
+    let y = last start (xs ++ more) in
+    now_weaker start c (Q y) (R x) (λ z q. both x y z (now_same start b (Some (xs ++ more)) (P x) grew one) q)
+    (now_same start b (Some (xs ++ more)) (λ w. Now start c (Q w)) grew two)

@@ -1,4 +1,5 @@
 pub mod Causes
-pub mod Disk
 pub mod Moments
+pub mod Disk
+pub mod DiskMoments
 pub mod Streams

@@ -1,7 +1,7 @@
 -- Streams of bytes: what a source has left, what a sink holds, and which calls of the memory forms fail.
-use Rattle.std.specs.Prelude.{◌≡◌, ◌↔◌, ℕ, ◌+◌, ◌-◌, ◌^◌, ◌<◌, ◌≤◌, min, Bool, true, false, List, [], ◌++◌, length, take, Option, Some, None, option_map, Result, IfOk, IfSome, MatchResult, nat_eq}
+use Rattle.std.specs.Prelude.{◌≡◌, ◌↔◌, ℕ, ◌<◌, ◌≤◌, true, false, List, [], ◌++◌, length, take, Option, Some, None, option_map, Result, IfOk, IfSome, MatchResult}
 use Rattle.std.specs.Io.KnownBytes.{Appends}
-use Rattle.std.specs.List.{list_any}
+use Rattle.tier_outside.specs.Causes.{one_more, is_listed}
 
 -- Where a source tells, the piece was the front of what was left. It tells before exactly where it tells after.
 abbrev pub Loses : Option (List ℕ) → Option (List ℕ) → List ℕ → Type 0
@@ -28,14 +28,6 @@ pub record GainsFront (old new : Option (List ℕ)) (bytes : List ℕ) : Type 0 
 -- A put took the whole piece; a failed one took a front of it.
 abbrev pub Puts : {E : Type 0} → Option (List ℕ) → Option (List ℕ) → List ℕ → Result (Unit {0}) E → Type 0
 Puts old new piece result = MatchResult result (λ _. Gains old new piece) (λ _. GainsFront old new piece)
-
--- a count of 64 bits after one more; at its end it stays
-abbrev pub one_more : ℕ → ℕ
-one_more count = min (count + 1) (2 ^ 64 - 1)
-
--- the call of this number is to fail
-abbrev pub is_listed : ℕ → List ℕ → Bool
-is_listed call fails = list_any (λ listed. nat_eq listed call) fails
 
 -- a call fails exactly where its number is listed; the calls so far were this many
 abbrev pub FailsWhereListed : {T E : Type 0} → List ℕ → ℕ → Result T E → Type 0

@@ -2,8 +2,7 @@
 //! exactly where its number is listed, and each failure is counted.
 
 ghost use Rattle.std.specs.Prelude.{◌≡◌, ◌≤◌, true, if◌then◌else◌};
-ghost use Rattle.tier_outside.specs.Causes.{Rose};
-ghost use Rattle.tier_outside.specs.Streams.{one_more, is_listed};
+ghost use Rattle.tier_outside.specs.Causes.{Rose, one_more, is_listed};
 
 /// The numbers of the calls that fail, and how many calls and faults there were.
 #[derive(Drop)]

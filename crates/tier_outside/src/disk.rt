@@ -2,8 +2,8 @@
 //! power cuts is of one form: each image of each moment since then has this.
 ghost use Rattle.std.specs.Prelude.{◌≡◌, ◌+◌, ◌^◌, ◌≤◌, List, ℕ, Option, length, IfOk, OnOk, OnErr};
 ghost use Rattle.tier_outside.specs.Causes.{HasCause};
-ghost use Rattle.tier_outside.specs.Disk.{Draft, IsImage, Writes, Cuts, Syncs, Restarts, Reads, written, resized};
-ghost use Rattle.tier_outside.specs.Moments.{Now, Then, Goes};
+ghost use Rattle.tier_outside.specs.Disk.{DiskMoment, IsImage, Writes, Cuts, Syncs, Restarts, Reads, written, resized};
+ghost use Rattle.tier_outside.specs.DiskMoments.{Now, Then, Goes};
 
 /// The disk failed.
 #[derive(Clone, Copy, Debug, PartialEq, Eq)]
@@ -15,7 +15,7 @@ pub struct DiskFault;
 /// may be any from the least to the greatest since then; other bytes stay. What the disk reads as is itself one of these images.
 pub trait Disk {
     /// The moments so far, the last of which is now, where the disk tells them. Whether it tells never changes.
-    ghost moments: { Self → Option (List Draft) };
+    ghost moments: { Self → Option (List DiskMoment) };
 
     /// How often it has failed; the count never falls.
     ghost faults: { Self → ℕ };

@@ -2,8 +2,8 @@
 //! fixed by the piece, the list, and the number of the call, but for want of memory.
 
 ghost use Rattle.std.specs.Prelude.{◌≡◌, ◌<◌, ◌++◌, List, ℕ, Option, Some, MatchResult, length, false, true, [], OnErr, OnOk};
-ghost use Rattle.tier_outside.specs.Causes.{HasCause};
-ghost use Rattle.tier_outside.specs.Streams.{Puts, one_more, is_listed, SinkState};
+ghost use Rattle.tier_outside.specs.Causes.{HasCause, one_more, is_listed};
+ghost use Rattle.tier_outside.specs.Streams.{Puts, SinkState};
 
 use crate::calls::Calls;
 use crate::sink::{Sink, SinkFault};

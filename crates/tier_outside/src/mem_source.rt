@@ -3,8 +3,8 @@
 
 ghost use Rattle.std.specs.Prelude.{◌≡◌, ◌-◌, List, ℕ, Option, Some, MatchResult, length, take, drop, min, false, true, [], vec_len, OnOk, OnErr, IfOk};
 ghost use Rattle.std.specs.Io.{ReadsAtMost};
-ghost use Rattle.tier_outside.specs.Causes.{HasCause};
-ghost use Rattle.tier_outside.specs.Streams.{Gives, EndsAtEnd, FailsWhereListed, one_more, is_listed, SourceState};
+ghost use Rattle.tier_outside.specs.Causes.{HasCause, one_more, is_listed};
+ghost use Rattle.tier_outside.specs.Streams.{Gives, EndsAtEnd, FailsWhereListed, SourceState};
 
 use crate::calls::Calls;
 use crate::source::{Source, SourceFault};

@@ -1,21 +1,21 @@
 -- How a run on the base ends, from how it was opened, what was told, and how it was closed.
+use Rattle.tier_outside.specs.Moments.{told}
 use Rattle.std.proofs.Common.{◌≡◌, inl, inr, ◌≤◌, ℕ, List, [], ◌∷◌, ◌++◌, Option, Some, None, refl, sym, ap, subst, ◌∙◌}
 use Rattle.obj_model.specs.declared.change.Pool.TheVariants.{Base}
 use Rattle.obj_ops.specs.Stores.{Store}
 use Rattle.script_lang.specs.declared.line.Numbered.{Numbered}
 use Rattle.script_lang.specs.Scripts.{IsScript}
 use Rattle.tier_outside.specs.Causes.{Rose}
-use Rattle.tier_outside.specs.Disk.{Draft, EachImage, IsImage}
-use Rattle.tier_outside.specs.Moments.{Now, last, grown}
-use Rattle.tier_outside.proofs.Moments.{now_since, now_weaker}
-use Rattle.gate_journal.specs.Stands.{Leaves}
+use Rattle.tier_outside.specs.Disk.{DiskMoment, EachImage, IsImage}
+use Rattle.tier_outside.specs.DiskMoments.{Now, last, grown, Leaves, SomeImage}
+use Rattle.tier_outside.proofs.DiskMoments.{now_since, now_weaker}
 use Rattle.store_face.specs.Tables.{Table}
 use Rattle.store_face.specs.Views.{Sides, one_map}
 use Rattle.store_face.specs.Views as store
 use Rattle.log_image.specs.Images.{HoldsMap, Log}
 use Rattle.log_store.specs.Commits.{SameStore}
-use Rattle.log_store.specs.Opens.{KeepsRefused, Left, Opened, OpeningStops, OpensAs, Refused}
-use Rattle.log_store.specs.Views.{HoldsSide, HoldsSides, LogView, store_of, told}
+use Rattle.log_store.specs.Opens.{KeepsRefused, Opened, OpeningStops, OpensAs, Refused}
+use Rattle.log_store.specs.Views.{HoldsSide, HoldsSides, LogView, store_of}
 use Rattle.log_store.specs.declared.fault.AttachFault.{AttachFault}
 use Rattle.log_store.specs.declared.fault.AttachFault.TheVariants as fault
 use Rattle.tier_tool.specs.Bases.{GoesOn, StandsFor}
@@ -27,22 +27,22 @@ use Rattle.tier_tool.specs.Texts.{bad_image_text, wrong_pair_text}
 use Rattle.tier_tool.proofs.Told.{rose_later}
 use Rattle.tier_tool.proofs.Views.{now_same}
 
-abbrev Drafts : Type 0
-Drafts = Option (List Draft)
+abbrev DiskMoments : Type 0
+DiskMoments = Option (List DiskMoment)
 
 -- ---- the base was not opened
 
 -- what a stop leaves now was left by a stop since, or nothing changed
-pub back_leaves : (old new : Drafts) → Leaves old new (OpeningStops Base 257) → BackLeaves old new (OpeningStops Base 257)
+pub back_leaves : (old new : DiskMoments) → Leaves old new (OpeningStops Base 257) → BackLeaves old new (OpeningStops Base 257)
 back_leaves None new left = tt
 back_leaves (Some ds) new left = now_since (Some ds) new (OpeningStops Base 257 (last ds)) (λ image is. inl is) left
 
 -- what was refused was not written
-back_kept : (old new : Drafts) → Leaves old new IsImage → BackLeaves old new IsImage
+back_kept : (old new : DiskMoments) → Leaves old new IsImage → BackLeaves old new IsImage
 back_kept None new left = tt
 back_kept (Some ds) new left = now_since (Some ds) new (IsImage (last ds)) (λ image is. is) left
 
-pub unopened_runs : (lines : List Numbered) (room : ℕ) (f : AttachFault) (old new : Drafts) (disk_rose sink_rose : Type 0) (put : List ℕ) (status : ℕ) → Refused Base 257 old disk_rose f
+pub unopened_runs : (lines : List Numbered) (room : ℕ) (f : AttachFault) (old new : DiskMoments) (disk_rose sink_rose : Type 0) (put : List ℕ) (status : ℕ) → Refused Base 257 old disk_rose f
     → KeepsRefused old new f → Leaves old new (OpeningStops Base 257) → TellsUnopened f sink_rose put status → RunsOn lines room disk_rose sink_rose old new put status
 unopened_runs lines room fault.Disk old new disk_rose sink_rose put status refused kept left tells =
     inr (inl (record { ended = tells.0; cause = refused; silent = tells.1; base_kept = back_leaves old new left }))
@@ -82,7 +82,7 @@ ends_weaker disk_rose whole_disk sink_rose said left (Stopped n) put status weak
 }
 
 -- whatever a stop leaves of the disk holds a map that was left
-kept_now : (base : Drafts) (s : Sides) (q : Standing) (ending : Ending) → HoldsSides Base 257 base s → IsLeft q ending s.before → IsLeft q ending s.after
+kept_now : (base : DiskMoments) (s : Sides) (q : Standing) (ending : Ending) → HoldsSides Base 257 base s → IsLeft q ending s.before → IsLeft q ending s.after
     → Now base (λ e. EachImage e (λ image. (u : Table) × HoldsMap Base 257 image u × IsLeft q ending u))
 kept_now base s q ending holds before after_ =
     now_weaker base (λ e. EachImage e (HoldsSide Base 257 s)) (λ e. EachImage e (λ image. (u : Table) × HoldsMap Base 257 image u × IsLeft q ending u))
@@ -92,7 +92,7 @@ kept_now base s q ending holds before after_ =
     one image (inl h) = (s.before, h, before)
     one image (inr h) = (s.after, h, after_)
 
-kept_said : (t : Table) (room : ℕ) (from : Standing) (lines : List Numbered) (said : List Said) (left : List Numbered) (ending : Ending) (w : LogView) (base : Drafts) (ss more : List Sides)
+kept_said : (t : Table) (room : ℕ) (from : Standing) (lines : List Numbered) (said : List Said) (left : List Numbered) (ending : Ending) (w : LogView) (base : DiskMoments) (ss more : List Sides)
     → w.moments ≡ store.grown (Some ss) more → store.Now (store_of w) (HoldsSides Base 257 base) → SaysFrom t room from lines said left ending (store_of w)
     → SaidFrom t room from lines said left ending base
 kept_said t room from lines said left ending w base ss more grew holds says =
@@ -105,14 +105,14 @@ kept_said t room from lines said left ending w base ss more grew holds says =
     }
 
 -- the store that was closed is of the pool and pair that was opened
-same_sides : (room : ℕ) (old base : Drafts) (v w : LogView) → Opened Base 257 room old v → SameStore v w → store.Now (store_of w) (HoldsSides w.role w.pair base)
+same_sides : (room : ℕ) (old base : DiskMoments) (v w : LogView) → Opened Base 257 room old v → SameStore v w → store.Now (store_of w) (HoldsSides w.role w.pair base)
     → store.Now (store_of w) (HoldsSides Base 257 base)
 same_sides room old base v w opened same holds =
     let role : w.role ≡ Base = same.role ∙ opened.role_is in
     let pair : w.pair ≡ 257 = same.pair ∙ opened.pair_is in
     subst (λ k. store.Now (store_of w) (HoldsSides Base k base)) pair (subst (λ r. store.Now (store_of w) (HoldsSides r w.pair base)) role holds)
 
-pub opened_runs : (lines : List Numbered) (room : ℕ) (old base : Drafts) (v w : LogView) (disk_rose whole_disk sink_rose : Type 0) (put : List ℕ) (status : ℕ) → (disk_rose → whole_disk)
+pub opened_runs : (lines : List Numbered) (room : ℕ) (old base : DiskMoments) (v w : LogView) (disk_rose whole_disk sink_rose : Type 0) (put : List ℕ) (status : ℕ) → (disk_rose → whole_disk)
     → Opened Base 257 room old v → Leaves old v.disk (OpeningStops Base 257) → SameStore v w → GoesOn (store_of v) (store_of w) → store.Now (store_of w) (HoldsSides w.role w.pair base)
     → TellsLines lines v w disk_rose sink_rose put status → RunsOn lines room whole_disk sink_rose old base put status
 opened_runs lines room old base v w disk_rose whole_disk sink_rose put status weaker opened stops same goes holds tells =
@@ -127,8 +127,8 @@ opened_runs lines room old base v w disk_rose whole_disk sink_rose put status we
     Says : ℕ → Table → Type 0
     Says limit t = (st : Store) → StandsFor t st → SaysFrom t limit (standing st v.used) lines tells.said tells.left tells.ending (store_of w)
 
-    from : (a : Drafts) → v.disk ≡ grown a stops.more → Left a (OpensAs Base 257 (record { table = opened.table; used = v.used }))
-        → Left a (λ image. (log : Log) × OpensAs Base 257 log image
+    from : (a : DiskMoments) → v.disk ≡ grown a stops.more → SomeImage a (OpensAs Base 257 (record { table = opened.table; used = v.used }))
+        → SomeImage a (λ image. (log : Log) × OpensAs Base 257 log image
         × ((st : Store) → StandsFor log.table st → SaidFrom log.table room (standing st log.used) lines tells.said tells.left tells.ending base))
     from None grew left = tt
     from (Some ds) grew left =
@@ -153,7 +153,7 @@ rose_as a b c d h same rose = subst (Rose a) (sym same) (rose_later a b c h rose
 -- ---- a script
 
 -- what lines of a script do is what the script does
-pub script_carries : (script : List ℕ) (lines : List Numbered) (room : ℕ) (disk_rose sink_rose : Type 0) (old new : Drafts) (put : List ℕ) (status : ℕ) → IsScript script lines
+pub script_carries : (script : List ℕ) (lines : List Numbered) (room : ℕ) (disk_rose sink_rose : Type 0) (old new : DiskMoments) (put : List ℕ) (status : ℕ) → IsScript script lines
     → RunsOn lines room disk_rose sink_rose old new put status → Carries script room disk_rose sink_rose old new put status
 script_carries script lines room disk_rose sink_rose old new put status is (inl lacks) = inl lacks
 script_carries script lines room disk_rose sink_rose old new put status is (inr (inl failed)) = inr (inr (inl failed))
@@ -161,17 +161,17 @@ script_carries script lines room disk_rose sink_rose old new put status is (inr 
 script_carries script lines room disk_rose sink_rose old new put status is (inr (inr (inr carries))) = inr (inr (inr (inr (record { lines = lines; is_script = is; carried = carries }))))
 
 -- a disk that was not touched
-pub untouched : (a : Drafts) → BackLeaves a a (OpeningStops Base 257)
+pub untouched : (a : DiskMoments) → BackLeaves a a (OpeningStops Base 257)
 untouched None = tt
 untouched (Some ds) = λ image is. inl is
 
-ends_run : (from : Option (List ℕ)) (script : List ℕ) (room : ℕ) (source_rose disk_rose sink_rose : Type 0) (old new : Drafts) (put : List ℕ) (status : ℕ) → IsReadWhole from script
+ends_run : (from : Option (List ℕ)) (script : List ℕ) (room : ℕ) (source_rose disk_rose sink_rose : Type 0) (old new : DiskMoments) (put : List ℕ) (status : ℕ) → IsReadWhole from script
     → Carries script room disk_rose sink_rose old new put status → RunEnds from room source_rose disk_rose sink_rose old new script put status
 ends_run from script room source_rose disk_rose sink_rose old new put status read (inl lacks) = inr (inl lacks)
 ends_run from script room source_rose disk_rose sink_rose old new put status read (inr carried) = inr (inr (record { read = read; told = carried }))
 
 -- a script that was read whole ends the run as it is carried out
-pub run_ends : (from : Option (List ℕ)) (given script : List ℕ) (room : ℕ) (source_rose disk_rose sink_rose : Type 0) (old new : Drafts) (put : List ℕ) (status : ℕ) → given ≡ script → IsReadWhole from script
+pub run_ends : (from : Option (List ℕ)) (given script : List ℕ) (room : ℕ) (source_rose disk_rose sink_rose : Type 0) (old new : DiskMoments) (put : List ℕ) (status : ℕ) → given ≡ script → IsReadWhole from script
     → Carries given room disk_rose sink_rose old new put status → RunEnds from room source_rose disk_rose sink_rose old new script put status
 run_ends from given script room source_rose disk_rose sink_rose old new put status same read carried =
     ends_run from script room source_rose disk_rose sink_rose old new put status read (subst (λ bytes. Carries bytes room disk_rose sink_rose old new put status) same carried)

@@ -6,13 +6,13 @@ use Rattle.obj_ops.specs.Stores.{Store}
 use Rattle.script_lang.specs.Scripts.{IsScript, IsFault}
 use Rattle.script_lang.specs.declared.line.Numbered.{Numbered}
 use Rattle.script_lang.specs.declared.read.Cause.{Cause}
-use Rattle.tier_outside.specs.Disk.{Draft, EachImage, IsImage}
-use Rattle.tier_outside.specs.Moments.{Now}
+use Rattle.tier_outside.specs.Disk.{DiskMoment, EachImage, IsImage}
+use Rattle.tier_outside.specs.DiskMoments.{Now, SomeImage}
 use Rattle.tier_outside.specs.Streams.{Loses, Gains}
 use Rattle.store_face.specs.Tables.{Table}
 use Rattle.log_image.specs.Fronts.{IsBad, IsOf}
 use Rattle.log_image.specs.Images.{HoldsMap, Log}
-use Rattle.log_store.specs.Opens.{Left, OpeningStops, OpensAs}
+use Rattle.log_store.specs.Opens.{OpeningStops, OpensAs}
 use Rattle.tier_tool.specs.declared.pair.DiskPair.{DiskPair}
 use Rattle.tier_tool.specs.declared.reading.Unread.{Unread}
 use Rattle.tier_tool.specs.declared.reading.Unread.TheVariants.{Fault, NoMemory}
@@ -61,7 +61,7 @@ MakesAndTells texts due sink_rose put status = Tells texts due sink_rose put sta
 -- ---- the base pool's disk
 
 -- what the one pair's part says of its base
-abbrev pub base_moments : {D : Type 0} → (D → Option (List Draft)) → List (DiskPair D) → Option (List Draft)
+abbrev pub base_moments : {D : Type 0} → (D → Option (List DiskMoment)) → List (DiskPair D) → Option (List DiskMoment)
 base_moments moments [] = None
 base_moments moments (pair ∷ pairs) = moments pair.base
 
@@ -90,33 +90,33 @@ IsHandedBack (pair ∷ []) (back ∷ []) = (back.cache ≡ pair.cache) × (back.
 IsHandedBack old new = ⊥
 
 -- whatever a stop leaves of the disk that is handed back stands so to its moment before the run
-abbrev pub BackLeaves : Option (List Draft) → Option (List Draft) → (Draft → List ℕ → Type 0) → Type 0
+abbrev pub BackLeaves : Option (List DiskMoment) → Option (List DiskMoment) → (DiskMoment → List ℕ → Type 0) → Type 0
 BackLeaves old new Q = Now old (λ d. Now new (λ e. EachImage e (λ image. Q d image)))
 
 -- ---- how a run ends
 
 -- the words do not ask for a run: the usage is told, with status 2, and nothing is read
-pub record IsMisused (words : List (List ℕ)) (sink_rose : Type 0) (base_old base_new : Option (List Draft)) (script put : List ℕ) (status : ℕ) : Type 0 where
+pub record IsMisused (words : List (List ℕ)) (sink_rose : Type 0) (base_old base_new : Option (List DiskMoment)) (script put : List ℕ) (status : ℕ) : Type 0 where
   pub words_refused : ¬ (AskRun words)
   pub untouched : script ≡ []
   pub base_same : base_new ≡ base_old
   pub told : Tells (usage_text ∷ []) 2 sink_rose put status
 
 -- the source failed before its end: status 7, and nothing is put
-pub record SourceFailed (source_rose : Type 0) (base_old base_new : Option (List Draft)) (put : List ℕ) (status : ℕ) : Type 0 where
+pub record SourceFailed (source_rose : Type 0) (base_old base_new : Option (List DiskMoment)) (put : List ℕ) (status : ℕ) : Type 0 where
   pub ended : status ≡ 7
   pub cause : source_rose
   pub base_same : base_new ≡ base_old
   pub silent : put ≡ []
 
 -- there was no memory before it was known what is to be put: status 9, and nothing is put; the base may have been formatted
-pub record LacksMemory (base_old base_new : Option (List Draft)) (put : List ℕ) (status : ℕ) : Type 0 where
+pub record LacksMemory (base_old base_new : Option (List DiskMoment)) (put : List ℕ) (status : ℕ) : Type 0 where
   pub ended : status ≡ 9
   pub silent : put ≡ []
   pub base_kept : BackLeaves base_old base_new (OpeningStops Base 257)
 
 -- the script is refused: its fault is told, with status 4, and no disk is touched
-pub record TellsFault (script : List ℕ) (sink_rose : Type 0) (base_old base_new : Option (List Draft)) (put : List ℕ) (status : ℕ) : Type 0 where
+pub record TellsFault (script : List ℕ) (sink_rose : Type 0) (base_old base_new : Option (List DiskMoment)) (put : List ℕ) (status : ℕ) : Type 0 where
   pub line : ℕ
   pub cause : Cause
   pub fault : IsFault script line cause
@@ -124,7 +124,7 @@ pub record TellsFault (script : List ℕ) (sink_rose : Type 0) (base_old base_ne
   pub told : MakesAndTells (fault_text line cause ∷ []) 4 sink_rose put status
 
 -- the base's disk failed while it was opened: status 6, and nothing is put
-pub record BaseFailed (disk_rose : Type 0) (base_old base_new : Option (List Draft)) (put : List ℕ) (status : ℕ) : Type 0 where
+pub record BaseFailed (disk_rose : Type 0) (base_old base_new : Option (List DiskMoment)) (put : List ℕ) (status : ℕ) : Type 0 where
   pub ended : status ≡ 6
   pub cause : disk_rose
   pub silent : put ≡ []
@@ -132,10 +132,10 @@ pub record BaseFailed (disk_rose : Type 0) (base_old base_new : Option (List Dra
 
 -- what a stop left of the base's disk is refused, which is told with status 5: it is no log of a base at some offset, or of another
 -- pair. The disk stays as it was.
-pub record RefusesImage (sink_rose : Type 0) (base_old base_new : Option (List Draft)) (put : List ℕ) (status : ℕ) : Type 0 where
+pub record RefusesImage (sink_rose : Type 0) (base_old base_new : Option (List DiskMoment)) (put : List ℕ) (status : ℕ) : Type 0 where
   pub why : List ℕ
-  pub cause : ((at : ℕ) × (why ≡ bad_image_text at) × Left base_old (λ image. IsBad Base 257 image at))
-      ⊎ ((other : ℕ) × (why ≡ wrong_pair_text other 257) × (other ≢ 257) × Left base_old (IsOf Base other))
+  pub cause : ((at : ℕ) × (why ≡ bad_image_text at) × SomeImage base_old (λ image. IsBad Base 257 image at))
+      ⊎ ((other : ℕ) × (why ≡ wrong_pair_text other 257) × (other ≢ 257) × SomeImage base_old (IsOf Base other))
   pub base_kept : BackLeaves base_old base_new IsImage
   pub told : MakesAndTells (why ∷ []) 5 sink_rose put status
 
@@ -143,28 +143,28 @@ pub record RefusesImage (sink_rose : Type 0) (base_old base_new : Option (List D
 -- answers it, or refused where its record does not fit. Whatever a stop leaves of the disk that is handed back holds a map that stands for
 -- the plain store behind the lines that were said; or, where a line was begun that was not said, for that store with its act too. So an
 -- act that was told survives any stop.
-pub record SaidFrom (t : Table) (room : ℕ) (from : Standing) (lines : List Numbered) (said : List Said) (left : List Numbered) (ending : Ending) (base_new : Option (List Draft)) : Type 0 where
+pub record SaidFrom (t : Table) (room : ℕ) (from : Standing) (lines : List Numbered) (said : List Said) (left : List Numbered) (ending : Ending) (base_new : Option (List DiskMoment)) : Type 0 where
   pub now : Standing
   pub says : Says t room from lines said left now
   pub kept : Now base_new (λ e. EachImage e (λ image. (u : Table) × HoldsMap Base 257 image u × IsLeft now ending u))
 
 -- Lines are carried out on the base from the log that an image of its disk was opened as. The base of the first pair has the number 257.
-pub record CarriesLines (lines : List Numbered) (room : ℕ) (disk_rose sink_rose : Type 0) (base_old base_new : Option (List Draft)) (put : List ℕ) (status : ℕ) : Type 0 where
+pub record CarriesLines (lines : List Numbered) (room : ℕ) (disk_rose sink_rose : Type 0) (base_old base_new : Option (List DiskMoment)) (put : List ℕ) (status : ℕ) : Type 0 where
   pub said : List Said
   pub left : List Numbered
   pub ending : Ending
   pub ends : EndsAs disk_rose sink_rose said left ending put status
-  pub from : Left base_old (λ image. (log : Log) × OpensAs Base 257 log image
+  pub from : SomeImage base_old (λ image. (log : Log) × OpensAs Base 257 log image
       × ((store : Store) → StandsFor log.table store → SaidFrom log.table room (standing store log.used) lines said left ending base_new))
 
 -- the script is accepted, and its lines are carried out
-pub record AnswersLines (script : List ℕ) (room : ℕ) (disk_rose sink_rose : Type 0) (base_old base_new : Option (List Draft)) (put : List ℕ) (status : ℕ) : Type 0 where
+pub record AnswersLines (script : List ℕ) (room : ℕ) (disk_rose sink_rose : Type 0) (base_old base_new : Option (List DiskMoment)) (put : List ℕ) (status : ℕ) : Type 0 where
   pub lines : List Numbered
   pub is_script : IsScript script lines
   pub carried : CarriesLines lines room disk_rose sink_rose base_old base_new put status
 
 -- the source was read to its end, or past the most bytes that a script may have, and what it gave was carried out
-pub record CarriesOut (left : Option (List ℕ)) (room : ℕ) (disk_rose sink_rose : Type 0) (base_old base_new : Option (List Draft)) (script put : List ℕ) (status : ℕ) : Type 0 where
+pub record CarriesOut (left : Option (List ℕ)) (room : ℕ) (disk_rose sink_rose : Type 0) (base_old base_new : Option (List DiskMoment)) (script put : List ℕ) (status : ℕ) : Type 0 where
   pub read : IsReadWhole left script
   pub told : TellsFault script sink_rose base_old base_new put status
       ⊎ BaseFailed disk_rose base_old base_new put status
@@ -172,19 +172,19 @@ pub record CarriesOut (left : Option (List ℕ)) (room : ℕ) (disk_rose sink_ro
       ⊎ AnswersLines script room disk_rose sink_rose base_old base_new put status
 
 -- how a run ends that the words ask for
-abbrev pub RunEnds : Option (List ℕ) → (room : ℕ) → (source_rose disk_rose sink_rose : Type 0) → (base_old base_new : Option (List Draft)) → List ℕ → List ℕ → ℕ → Type 0
+abbrev pub RunEnds : Option (List ℕ) → (room : ℕ) → (source_rose disk_rose sink_rose : Type 0) → (base_old base_new : Option (List DiskMoment)) → List ℕ → List ℕ → ℕ → Type 0
 RunEnds left room source_rose disk_rose sink_rose base_old base_new script put status =
     SourceFailed source_rose base_old base_new put status
     ⊎ LacksMemory base_old base_new put status
     ⊎ CarriesOut left room disk_rose sink_rose base_old base_new script put status
 
 -- the words ask for a run
-pub record IsRun (words : List (List ℕ)) (left : Option (List ℕ)) (room : ℕ) (source_rose disk_rose sink_rose : Type 0) (base_old base_new : Option (List Draft)) (script put : List ℕ) (status : ℕ) : Type 0 where
+pub record IsRun (words : List (List ℕ)) (left : Option (List ℕ)) (room : ℕ) (source_rose disk_rose sink_rose : Type 0) (base_old base_new : Option (List DiskMoment)) (script put : List ℕ) (status : ℕ) : Type 0 where
   pub words_taken : AskRun words
   pub ends : RunEnds left room source_rose disk_rose sink_rose base_old base_new script put status
 
 -- a whole run: the bytes that the source gave, the bytes that the sink took, and how it ended
-pub record Ran (words : List (List ℕ)) (left_old left_new held_old held_new : Option (List ℕ)) (room : ℕ) (source_rose disk_rose sink_rose : Type 0) (base_old base_new : Option (List Draft)) (status : ℕ) : Type 0 where
+pub record Ran (words : List (List ℕ)) (left_old left_new held_old held_new : Option (List ℕ)) (room : ℕ) (source_rose disk_rose sink_rose : Type 0) (base_old base_new : Option (List DiskMoment)) (status : ℕ) : Type 0 where
   pub script : List ℕ
   pub given : Loses left_old left_new script
   pub put : List ℕ
@@ -205,7 +205,7 @@ abbrev pub Took : Option (List ℕ) → Option (List ℕ) → (List ℕ → Type
 Took held_old held_new P = (put : List ℕ) × Gains held_old held_new put × P put
 
 -- a script was carried out, or memory lacked before it was known what is to be put
-abbrev pub Carries : List ℕ → (room : ℕ) → (disk_rose sink_rose : Type 0) → (base_old base_new : Option (List Draft)) → List ℕ → ℕ → Type 0
+abbrev pub Carries : List ℕ → (room : ℕ) → (disk_rose sink_rose : Type 0) → (base_old base_new : Option (List DiskMoment)) → List ℕ → ℕ → Type 0
 Carries script room disk_rose sink_rose base_old base_new put status =
     LacksMemory base_old base_new put status
     ⊎ TellsFault script sink_rose base_old base_new put status

@@ -1,6 +1,6 @@
 -- How one line is carried out and told, and how the base is opened, carried on and closed.
 use Rattle.std.specs.Prelude.{◌≡◌, ◌⊎◌, ℕ, true, List, [], ◌∷◌, ◌++◌, Option, Result, Ok, Err}
-use Rattle.tier_outside.specs.Disk.{Draft}
+use Rattle.tier_outside.specs.Disk.{DiskMoment}
 use Rattle.log_store.specs.Commits.{SameStore}
 use Rattle.log_store.specs.Views.{LogView, store_of}
 use Rattle.log_store.specs.declared.fault.AttachFault.{AttachFault}
@@ -118,7 +118,7 @@ TellsUnopened (fault.WrongPair found want) sink_rose put status = MakesAndTells 
 TellsUnopened fault.NoMemory sink_rose put status = (status ≡ 9) × (put ≡ [])
 
 -- the base was opened, and the lines were carried out; or why it was not
-abbrev pub RunsOn : List Numbered → (room : ℕ) → (disk_rose sink_rose : Type 0) → (base_old base_new : Option (List Draft)) → List ℕ → ℕ → Type 0
+abbrev pub RunsOn : List Numbered → (room : ℕ) → (disk_rose sink_rose : Type 0) → (base_old base_new : Option (List DiskMoment)) → List ℕ → ℕ → Type 0
 RunsOn lines room disk_rose sink_rose base_old base_new put status =
     LacksMemory base_old base_new put status
     ⊎ BaseFailed disk_rose base_old base_new put status

@@ -1,5 +1,5 @@
 use Rattle.std.proofs.Common.{inl}
-use Rattle.tier_outside.proofs.Moments.{since_trans, since_weaker}
+use Rattle.tier_outside.proofs.DiskMoments.{since_trans, since_weaker}
 use Rattle.disk_laws.specs.Records.{OldOrNew, Spells}
 use Rattle.disk_laws.proofs.records.append.Goals as goal
 

@@ -1,5 +1,6 @@
 use Rattle.std.proofs.Common.{subst, List, ℕ}
-use Rattle.gate_journal.specs.Stands.{Leaves, StandsAs, HoldsWithOrWithout}
+use Rattle.gate_journal.specs.Stands.{StandsAs, HoldsWithOrWithout}
+use Rattle.tier_outside.specs.DiskMoments.{Leaves}
 use Rattle.gate_journal.proofs.adding.append.Goals as goal
 
 pub returns-in_err-add-in-Ok-clause-any_moment : goal.returns-in_err-add-in-Ok-clause-any_moment

@@ -1,7 +1,7 @@
 use Rattle.std.proofs.Common.{◌≡◌, ◌+◌, arith, ap, sym, subst, length, take, List, ℕ, Err, ◌∙◌}
 use Rattle.store_face.specs.declared.fault.StoreFault.{StoreFault}
 use Rattle.tier_outside.specs.Causes.{Rose}
-use Rattle.tier_outside.specs.Moments.{Now}
+use Rattle.tier_outside.specs.DiskMoments.{Now}
 use Rattle.gate_journal.specs.Calls.{WalkEnds}
 use Rattle.gate_journal.specs.Journals.{AreRecords}
 use Rattle.gate_journal.specs.Steps.{RecordRead}

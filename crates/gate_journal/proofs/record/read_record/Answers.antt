@@ -1,6 +1,6 @@
 use Rattle.std.proofs.Common.{arith, length, ◌≡◌, ◌<◌, ◌+◌, ◌∙◌, sym, subst, take, drop, List, ℕ}
 use Rattle.std.proofs.lemmas.List.{take_at}
-use Rattle.tier_outside.specs.Moments.{Now}
+use Rattle.tier_outside.specs.DiskMoments.{Now}
 use Rattle.gate_journal.specs.Journals.{IsRecord}
 use Rattle.gate_journal.proofs.Heads.{whole_record}
 use Rattle.gate_journal.proofs.record.read_record.Goals as goal

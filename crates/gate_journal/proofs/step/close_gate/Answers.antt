@@ -1,7 +1,6 @@
 use Rattle.std.proofs.Common.{◌⊎◌, ◌≡◌, inl, inr, slice_index, refl, subst}
-use Rattle.tier_outside.specs.Disk.{IsImage}
-use Rattle.tier_outside.specs.Moments.{Now}
-use Rattle.gate_journal.specs.Stands.{Leaves, StopsIn}
+use Rattle.tier_outside.specs.Disk.{IsImage, StopsIn}
+use Rattle.tier_outside.specs.DiskMoments.{Now, Leaves}
 use Rattle.gate_journal.proofs.Heads.{not_closed}
 use Rattle.gate_journal.proofs.Steps.{close_leaves}
 use Rattle.gate_journal.proofs.step.close_gate.Goals as goal

@@ -1,4 +1,4 @@
-use Rattle.tier_outside.specs.Moments.{Now}
+use Rattle.tier_outside.specs.DiskMoments.{Now}
 use Rattle.gate_journal.specs.Stands.{InRange, Standing}
 use Rattle.journal_tests.proofs.tests.append_all.Given as goal
 

@@ -1,7 +1,8 @@
+use Rattle.tier_outside.specs.Disk.{RangeStands}
 use Rattle.std.proofs.Common.{◌+◌, sym, subst}
 use Rattle.tier_outside.specs.Causes.{Rose}
-use Rattle.tier_outside.specs.Moments.{Now}
-use Rattle.gate_journal.specs.Stands.{RangeStands, StandsAs}
+use Rattle.tier_outside.specs.DiskMoments.{Now}
+use Rattle.gate_journal.specs.Stands.{StandsAs}
 use Rattle.gate_journal.proofs.Walks.{err_is}
 use Rattle.log_image.specs.Calls.{ReadEnds}
 use Rattle.log_image.proofs.Found.{read_held, read_refused}

@@ -1,5 +1,5 @@
 use Rattle.std.proofs.Common.{subst, refl}
-use Rattle.tier_outside.specs.Moments.{Now}
+use Rattle.tier_outside.specs.DiskMoments.{Now}
 use Rattle.log_image.specs.Fronts.{FrontIs}
 use Rattle.log_image.specs.declared.front.Front.{Front}
 use Rattle.log_store.proofs.Opens.{half_blank, headed_now, of_other, opening_made, opening_read, read_bad, read_opens, read_stands, unwritten_blank}

@@ -1,5 +1,5 @@
 use Rattle.std.proofs.Common.{subst}
-use Rattle.tier_outside.specs.Moments.{Now}
+use Rattle.tier_outside.specs.DiskMoments.{Now}
 use Rattle.log_image.specs.Fronts.{FrontIs, IsHeaded}
 use Rattle.log_image.specs.declared.front.Front.{Front}
 use Rattle.log_store.proofs.Opens.{left_of}

@@ -1,6 +1,6 @@
 use Rattle.std.proofs.Common.{arith, subst}
 use Rattle.tier_outside.specs.Causes.{Rose}
-use Rattle.tier_outside.specs.Moments.{Now}
+use Rattle.tier_outside.specs.DiskMoments.{Now}
 use Rattle.log_image.specs.Fronts.{FrontIs}
 use Rattle.log_image.specs.declared.front.Front.{Front}
 use Rattle.log_store.proofs.Opens.{headed_now, none_bad, none_half, none_other, reread_holds, reread_refused, reread_stands}
