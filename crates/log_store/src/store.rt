@@ -75,8 +75,8 @@ fn change(pool: &mut PoolMap, past: &mut Vec<Moment>, used: u64, behind: u64)
     requires { vec_len past.old < vec_capacity past.old }
     ensures pool { pool.new ≡ at_rest (changed_by pool.old.table pool.old.ready) }
     ensures past { map crash_of past.new.items ≡ map crash_of past.old.items ++ (record {
-        before = record { table = pool.old.table; used = used };
-        after = record { table = changed_by pool.old.table pool.old.ready; used = behind };
+      before = record { table = pool.old.table; used = used };
+      after = record { table = changed_by pool.old.table pool.old.ready; used = behind };
     }) ∷ [] }
     ensures room { vec_capacity past.new + vec_len past.old + 1 ≡ vec_capacity past.old + vec_len past.new }
 {

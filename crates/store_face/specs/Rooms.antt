@@ -84,10 +84,10 @@ BlockLacks blocks area t changes None =
     × (has_put changes ≡ true → index_size (changed_by t changes) ≤ area)
 BlockLacks blocks area t changes (Some lack) =
     ((blocks < blocks_used t + sum_by blocks_put changes)
-      × (lack ≡ record { used = blocks_used t; need = sum_by blocks_put changes; limit = blocks }))
+    × (lack ≡ record { used = blocks_used t; need = sum_by blocks_put changes; limit = blocks }))
     ⊎ (HasBlocks blocks t changes × (has_put changes ≡ true)
-      × (area < index_size (changed_by t changes))
-      × (lack ≡ record { used = index_size t; need = index_size (changed_by t changes) - index_size t; limit = area }))
+    × (area < index_size (changed_by t changes))
+    × (lack ≡ record { used = index_size t; need = index_size (changed_by t changes) - index_size t; limit = area }))
 
 -- ---- either
 

@@ -60,9 +60,9 @@ Sound v = v.live ≡ true → Now v (IsOne v.used)
 -- Changes meet this want of room, or none. Of a store in blocks it is said where its disk tells.
 abbrev pub Lacks : StoreView → List Change → Option Lack → Type 0
 Lacks v changes lack = elim v.room [
-    | LogRoom limit ↦ LogLacks limit v.used changes lack
-    | BlockRoom blocks area ↦ Holds v (λ t. BlockLacks blocks area t changes lack)
-  ]
+  | LogRoom limit ↦ LogLacks limit v.used changes lack
+  | BlockRoom blocks area ↦ Holds v (λ t. BlockLacks blocks area t changes lack)
+]
 
 -- more moments came, and where the store tells each of them stands so to the one that was now
 abbrev pub Grows : StoreView → StoreView → (CrashMaps → CrashMaps → Type 0) → Type 0
