@@ -14,7 +14,8 @@ staged gate body old = written (gate + 1) body old
 abbrev pub opened : ℕ → List ℕ → List ℕ → List ℕ
 opened gate body old = written gate (1 ∷ []) (staged gate body old)
 
--- What a stop leaves while a record is added: before all is settled behind the gate nothing else is touched, and then nothing but the gate.
+-- What a stop leaves while a record is added: before all is settled behind the gate nothing else is
+-- touched, and then nothing but the gate.
 abbrev pub AddStops : ℕ → List ℕ → DiskMoment → List ℕ → Type 0
 AddStops gate body d image =
     StopsIn (gate + 1) (length body) d image
@@ -36,7 +37,8 @@ pub record IsOpen (bytes : List ℕ) (gate size : ℕ) : Type 0 where
   pub opened : slice_index bytes gate ≡ 1
   pub size_is : size_at bytes gate ≡ size
 
--- the head of a record was read below a limit: it is closed, or the length of a payload that is there with a gate behind it
+-- the head of a record was read below a limit: it is closed, or the length of a payload that is
+-- there with a gate behind it
 abbrev pub HeadRead : (gate limit : ℕ) → Option (List DiskMoment) → (failed : Type 0) → Result (Option ℕ) StoreFault → Type 0
 HeadRead gate limit moments failed (Ok None) = (gate < limit) × Now moments (λ d. IsClosed (take limit d.content) gate)
 HeadRead gate limit moments failed (Ok (Some size)) =

@@ -1,7 +1,9 @@
-//! A journal on a disk: records of bytes one after another, each of which is whole or not there after any stop.
+//! A journal on a disk: records of bytes one after another, each of which is whole or not there
+//! after any stop.
 //!
-//! A record is a gate (1 byte), the payload's length (4 bytes, the greatest first) and the payload; behind the last record stands one
-//! more gate. A gate of value 1 is open; any other is closed and ends the journal.
+//! A record is a gate (1 byte), the payload's length (4 bytes, the greatest first) and the payload;
+//! behind the last record stands one more gate. A gate of value 1 is open; any other is closed and
+//! ends the journal.
 #![tactic(auto)]
 
 mod adding;

@@ -53,9 +53,9 @@ impl Model for Record {
 impl Record {
     /// Makes the record of a payload (below 2^32 bytes) for a journal.
     ///
-    /// `NoSpace` comes exactly where the record and the gate behind it do not fit before the journal's
-    /// end: used is the offset behind its closed gate, need is the payload and 5 bytes, the limit is the
-    /// end.
+    /// `NoSpace` comes exactly where the record and the gate behind it do not fit before the
+    /// journal's end: used is the offset behind its closed gate, need is the payload and 5 bytes,
+    /// the limit is the end.
     pub fn new(alloc: Global, journal: &Journal, payload: &[u8]) -> Result<Record, StoreFault>
         requires in_range { InRange journal.now }
         requires size { length payload.now < 2 ^ 32 }
@@ -83,8 +83,8 @@ impl Record {
     }
 }
 
-// The length of the payload behind an open gate, or `None` behind a closed one. Below the limit the payload and the gate behind it are
-// there.
+// The length of the payload behind an open gate, or `None` behind a closed one. Below the limit the
+// payload and the gate behind it are there.
 fn read_head<D: Disk>(disk: &mut D, gate: u64, limit: u64) -> Result<Option<u64>, StoreFault>
     requires small { limit ≤ 2 ^ 41 }
     requires there { Now (D.moments disk.old) (λ d. limit ≤ length d.content) }
@@ -110,8 +110,9 @@ fn read_head<D: Disk>(disk: &mut D, gate: u64, limit: u64) -> Result<Option<u64>
     Ok(Some(size))
 }
 
-/// The payload of the record at a gate, or `None` where the gate is closed. Only bytes below the limit count, all of which are there.
-/// A length is tested against the limit before there is memory for it.
+/// The payload of the record at a gate, or `None` where the gate is closed. Only bytes below the
+/// limit count, all of which are there. A length is tested against the limit before there is memory
+/// for it.
 pub fn read_record<D: Disk>(
     alloc: Global,
     disk: &mut D,

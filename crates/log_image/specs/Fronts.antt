@@ -10,8 +10,8 @@ use Rattle.log_image.specs.Images.{IsEmpty, IsHalfOpen, AreTxns, role_byte}
 use Rattle.log_image.specs.declared.front.Front.{Front}
 use Rattle.log_image.specs.declared.front.Front.TheVariants.{Blank, HalfOpen, Bad, Headed}
 
--- The place of the first test that the head of a disk fails: its first gate, the length of its first record, its magic, its pool; a
--- record that ends before its pair does is broken at its gate.
+-- The place of the first test that the head of a disk fails: its first gate, the length of its
+-- first record, its magic, its pool; a record that ends before its pair does is broken at its gate.
 abbrev pub head_fault : Pool → List ℕ → Option ℕ
 head_fault role image =
     if not (slice_index image 0 == 1) then Some 0
@@ -37,7 +37,8 @@ pub record IsMisheaded (role : Pool) (image : List ℕ) (at : ℕ) : Type 0 wher
   pub used : ¬ IsEmpty role image
   pub failed : head_fault role image ≡ Some at
 
--- a disk with at most one byte, or one that begins with a zero; and whether there is a first byte that is zero
+-- a disk with at most one byte, or one that begins with a zero; and whether there is a first byte
+-- that is zero
 pub record IsUnwritten (image : List ℕ) (zeroed : Bool) : Type 0 where
   pub blank : (length image ≤ 1) ⊎ (slice_index image 0 ≡ 0)
   pub zero_is : IsTrue zeroed ↔ ((0 < length image) × (slice_index image 0 ≡ 0))
@@ -64,7 +65,8 @@ pub record HasNoTxn (image : List ℕ) (at : ℕ) : Type 0 where
   pub at_is : at ≡ gate + 5
   pub none : (txn : List Change) → ¬ SpellsTxn payload txn
 
--- the bytes of a disk whose head passes are no log: they are no journal, or else a record behind the first is no transaction
+-- the bytes of a disk whose head passes are no log: they are no journal, or else a record behind
+-- the first is no transaction
 abbrev pub IsNoLog : List ℕ → ℕ → Type 0
 IsNoLog image at = Means 0 store_limit image (Broken at) ⊎ HasNoTxn image at
 

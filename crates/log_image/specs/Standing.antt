@@ -21,7 +21,8 @@ pub record IsLogJournal (journal : Journal) : Type 0 where
 abbrev pub ends_at : ℕ → Journal → Journal
 ends_at end journal = record { start = journal.start; next = journal.next; end = end }
 
--- The log stands on the disk with this map, whatever a stop leaves: its bytes up to its closed gate are settled.
+-- The log stands on the disk with this map, whatever a stop leaves: its bytes up to its closed gate
+-- are settled.
 pub record LogStands (role : Pool) (pair : ℕ) (journal : Journal) (table : Table) (d : DiskMoment) : Type 0 where
   pub payloads : List (List ℕ)
   pub txns : List (List Change)
@@ -33,6 +34,7 @@ pub record LogStands (role : Pool) (pair : ℕ) (journal : Journal) (table : Tab
 abbrev pub first_journal : Journal
 first_journal = record { start = 0; next = 22; end = store_limit }
 
--- what a stop leaves while a blank disk is formatted: it is still blank, or holds a log without transactions
+-- what a stop leaves while a blank disk is formatted: it is still blank, or holds a log without
+-- transactions
 abbrev pub BlankOrNew : Pool → ℕ → List ℕ → Type 0
 BlankOrNew role pair image = IsBlank role pair image ⊎ HoldsLog role pair image no_txns

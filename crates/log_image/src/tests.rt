@@ -1,5 +1,5 @@
 //! What the first bytes of disks say, and what formatting leaves, over the disk in memory.
-use crate::{Front, finish, format, look};
+use crate::{Front, finish_format, format_log, look_at_head};
 use mem_disk::{MemDisk, Pick};
 use obj_model::Pool;
 use std::alloc::Global;
@@ -22,16 +22,17 @@ fn memory(
     Ok(MemDisk::new(alloc, bytes, fails, stop_at, pick).expect(rt, "made"))
 }
 
-// Restarts a disk, and formats it or ends its formatting where it is empty; was that done, or was there nothing to do?
+// Restarts a disk, and formats it or ends its formatting where it is empty; was that done, or was
+// there nothing to do?
 fn open<D: Disk>(rt: &impl Abort, disk: &mut D, pair: u64) -> bool {
     if disk.restart().is_err() {
         return false;
     }
-    match look(disk, Pool::Cache) {
-        Ok(Front::Blank { zeroed }) => format(disk, Pool::Cache, pair, zeroed).is_ok(),
+    match look_at_head(disk, Pool::Cache) {
+        Ok(Front::Blank { zeroed }) => format_log(disk, Pool::Cache, pair, zeroed).is_ok(),
         Ok(Front::HalfOpen { pair: found }) => {
             assert_eq!(rt; found, pair);
-            finish(disk, Pool::Cache, found).is_ok()
+            finish_format(disk, Pool::Cache, found).is_ok()
         }
         Ok(Front::Headed { pair: found }) => found == pair,
         Ok(Front::Bad { .. }) | Err(_) => false,
@@ -54,7 +55,7 @@ fn an_empty_disk_becomes_a_log(rt: HostRuntime) -> Result<(), Fail> {
         assert!(rt; open(&rt, &mut disk, 257));
         reads_as(&rt, &mut disk, NEW);
         assert_eq!(rt;
-            look(&mut disk, Pool::Cache),
+            look_at_head(&mut disk, Pool::Cache),
             Ok(Front::Headed { pair: 257 })
         );
     }
@@ -105,11 +106,11 @@ fn a_bad_head_is_told_at_its_place(rt: HostRuntime) -> Result<(), Fail> {
     ];
     for (bytes, at) in bad {
         let mut disk = memory(&rt, alloc, bytes, None, Pick::Old)?;
-        assert_eq!(rt; look(&mut disk, Pool::Cache), Ok(Front::Bad { at }));
+        assert_eq!(rt; look_at_head(&mut disk, Pool::Cache), Ok(Front::Bad { at }));
         assert!(rt; !open(&rt, &mut disk, 257));
         reads_as(&rt, &mut disk, bytes);
     }
     let mut base = memory(&rt, alloc, NEW, None, Pick::Old)?;
-    assert_eq!(rt; look(&mut base, Pool::Base), Ok(Front::Bad { at: 13 }));
+    assert_eq!(rt; look_at_head(&mut base, Pool::Base), Ok(Front::Bad { at: 13 }));
     Ok(())
 }

@@ -24,7 +24,7 @@ use Rattle.pool_map.specs.Pools.{PoolView, at_rest}
 use Rattle.store_face.specs.declared.fault.StoreFault.{StoreFault}
 use Rattle.store_face.specs.declared.fault.StoreFault.TheVariants as fault
 use Rattle.store_face.specs.Calls.{Between, Both, Committed}
-use Rattle.store_face.specs.Rooms.{Lack, LogLacks, LogRoom, record_size}
+use Rattle.store_face.specs.Rooms.{Lack, LogRoom, record_size}
 use Rattle.store_face.specs.Tables.{Table, changed_by}
 use Rattle.store_face.specs.Views.{CrashMaps, Durable, IsBehind, IsOne, Sound, StoreView, alone, no_map}
 use Rattle.store_face.specs.Views as store
@@ -33,7 +33,7 @@ use Rattle.log_image.specs.Images.{HoldsLog, head}
 use Rattle.log_image.specs.Standing.{IsLogJournal, LogStands}
 use Rattle.log_image.proofs.Lawful.{payload_size, stands_lawful}
 use Rattle.log_image.proofs.Stands.{append_stands, longer_holds, longer_journal, stands_holds}
-use Rattle.log_store.specs.Commits.{KeepsAll, WithOrWithout, with_changes}
+use Rattle.log_store.specs.Commits.{WithOrWithout, with_changes}
 use Rattle.log_store.specs.Inner as inner
 use Rattle.log_store.specs.Inner.{IsWhole, held}
 use Rattle.log_store.specs.Views.{EachHolds, HoldsEither, LogView, store_of}

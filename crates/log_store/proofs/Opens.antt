@@ -17,7 +17,7 @@ use Rattle.log_image.specs.Images.{HoldsLog, IsBlank, IsHalfOpen}
 use Rattle.log_image.specs.Standing.{BlankOrNew, LogStands}
 use Rattle.log_image.specs.declared.front.Front.TheVariants.{Blank, HalfOpen, Bad, Headed}
 use Rattle.log_image.proofs.Heads.{head_passes}
-use Rattle.log_image.proofs.LogLaws.{a_log_is_headed, a_log_is_not_refused}
+use Rattle.log_image.proofs.LogLaws.{a_log_is_headed, a_log_is_not_refused, one_log}
 use Rattle.log_image.proofs.Stands.{held_stands}
 use Rattle.log_store.specs.Opens.{NotReread, OpensAs, OpeningStops}
 
@@ -168,3 +168,10 @@ reread_refused role pair (Err (store.BadImage at)) failed failed2 a b fits later
 reread_refused role pair (Err store.NoMemory) failed failed2 a b fits later left back headed ends = tt
 reread_refused role pair (Err (store.NoSpace used need limit)) failed failed2 a b fits later left back headed ends = ends
 reread_refused role pair (Err (store.Worn limit)) failed failed2 a b fits later left back headed ends = ends
+
+-- ---- a log that is opened
+
+-- what a log holds is what it is opened with
+pub goes_on : (role : Pool) (pair : ℕ) (image : List ℕ) (log opened : Durable) → pair < 2 ^ 64 → HoldsLog role pair image log → OpensAs role pair opened image → opened ≡ log
+goes_on role pair image log opened fits holds (inl new) = absurd ((a_log_is_headed role pair image log holds fits).used (pair, new.0))
+goes_on role pair image log opened fits holds (inr also) = one_log role pair image opened log also holds

@@ -1,6 +1,6 @@
 -- What a store is after it was opened anew.
-use Rattle.std.specs.Prelude.{◌≡◌, ◌⊎◌, ◌≤◌, ◌+◌, ℕ, Bool, true, false, List, [], ◌∷◌, ◌++◌, Option, Some, None, Ok, Err, refl}
-use Rattle.std.proofs.Common.{◌∙◌, sym, subst, ap, arith, inl, inr}
+use Rattle.std.specs.Prelude.{◌≡◌, ◌⊎◌, ◌≤◌, ℕ, Bool, true, false, List, [], ◌∷◌, ◌++◌, Option, Some, None, Ok, Err, refl}
+use Rattle.std.proofs.Common.{◌∙◌, sym, subst, ap, inl, inr}
 use Rattle.std.proofs.lemmas.List.{append-nil}
 use Rattle.obj_model.specs.declared.change.Pool.{Pool}
 use Rattle.tier_outside.specs.Causes.{Rose}
@@ -16,9 +16,7 @@ use Rattle.store_face.specs.declared.fault.StoreFault.{StoreFault}
 use Rattle.store_face.specs.declared.fault.StoreFault.TheVariants as fault
 use Rattle.store_face.specs.Calls.{Among, Both, Reopened}
 use Rattle.store_face.specs.Limits.{store_limit}
-use Rattle.store_face.specs.Tables.{Table}
 use Rattle.store_face.specs.Views.{CrashMaps, Durable, StoreView, alone, no_map}
-use Rattle.store_face.specs.Views as store
 use Rattle.log_image.specs.Images.{HoldsLog}
 use Rattle.log_image.specs.Standing.{IsLogJournal, LogStands, ends_at}
 use Rattle.log_image.proofs.LogLaws.{one_log}

@@ -19,8 +19,8 @@ abbrev pub WithOrWithout : Pool → ℕ → List Change → Durable → List ℕ
 WithOrWithout role pair changes d image =
     HoldsLog role pair image d ⊎ HoldsLog role pair image (with_changes changes d)
 
--- A commit that is refused for space or memory leaves all as it was, the disk and its count of faults
--- too. A log has no other refusal.
+-- A commit that is refused for space or memory leaves all as it was, the disk and its count of
+-- faults too. A log has no other refusal.
 abbrev pub KeepsAll : LogView → LogView → Result (Unit {0}) StoreFault → Type 0
 KeepsAll old new (Ok done) = Unit {0}
 KeepsAll old new (Err Disk) = Unit {0}

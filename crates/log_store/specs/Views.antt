@@ -10,9 +10,9 @@ use Rattle.store_face.specs.Rooms.{LogRoom}
 use Rattle.store_face.specs.Views.{CrashMaps, StoreView}
 use Rattle.log_image.specs.Images.{HoldsLog}
 
--- A store over a log: the moments of its disk and how often that failed; whether it is live; what pool
--- and pair it is of; the room for its log and the offset behind the log's last gate, in bytes; and,
--- moment by moment since it was opened, what a crash may leave.
+-- A store over a log: the moments of its disk and how often that failed; whether it is live; what
+-- pool and pair it is of; the room for its log and the offset behind the log's last gate, in bytes;
+-- and, moment by moment since it was opened, what a crash may leave.
 pub record LogView : Type 0 where
   pub disk : Option (List DiskMoment)
   pub faults : ℕ

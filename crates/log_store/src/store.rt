@@ -31,7 +31,8 @@ use tier_outside::Disk;
 
 /// A map from keys to values on one disk, of a pool and a pair of pools.
 ///
-/// The whole map stands in memory too, so reading touches no disk. Each commit adds a record to the log, as long as there is room.
+/// The whole map stands in memory too, so reading touches no disk. Each commit adds a record to the
+/// log, as long as there is room.
 #[derive(Drop)]
 pub struct LogStore<D: Disk + Drop> {
     alloc: Global,
@@ -70,7 +71,8 @@ fn copies(alloc: Global, changes: &[Change]) -> Result<Vec<Change>, NoMemory>
     Ok(copies)
 }
 
-// The changes that are prepared are made: a crash may leave what was held before, or that with them.
+// The changes that are prepared are made: a crash may leave what was held before, or that with
+// them.
 fn change(pool: &mut PoolMap, past: &mut Vec<Moment>, used: u64, behind: u64)
     requires { vec_len past.old < vec_capacity past.old }
     ensures pool { pool.new ≡ at_rest (changed_by pool.old.table pool.old.ready) }
@@ -97,11 +99,12 @@ fn settle(pool: &PoolMap, past: &mut Vec<Moment>, used: u64)
 }
 
 impl<D: Disk + Drop> LogStore<D> {
-    /// Opens the store on a disk, of this pool and pair of pools. The disk is restarted; an empty one is formatted; the log of this pool
-    /// and pair is read; anything else is refused, and stays as it is.
+    /// Opens the store on a disk, of this pool and pair of pools. The disk is restarted; an empty
+    /// one is formatted; the log of this pool and pair is read; anything else is refused, and stays
+    /// as it is.
     ///
-    /// The room, 64 to 2^40 bytes, bounds what commits may use of the disk, and nothing else: a longer log is read too. After an error the
-    /// disk is handed back.
+    /// The room, 64 to 2^40 bytes, bounds what commits may use of the disk, and nothing else: a
+    /// longer log is read too. After an error the disk is handed back.
     pub fn attach(
         alloc: Global,
         disk: D,

@@ -16,7 +16,7 @@ use Rattle.obj_model.specs.Changes.{IsChange}
 use Rattle.obj_model.specs.Names.{name_cmp}
 use Rattle.obj_model.specs.declared.change.Change.{Change}
 use Rattle.obj_model.specs.declared.change.Change.TheVariants.{Put, Remove}
-use Rattle.store_face.specs.Limits.{IsPoolMap, entry_weight, store_limit, weight}
+use Rattle.store_face.specs.Limits.{entry_weight, weight}
 use Rattle.store_face.specs.Rooms.{change_size, record_size}
 use Rattle.store_face.specs.Tables.{Table, changed, changed_by}
 

@@ -75,9 +75,9 @@ pub record MayBeMade (changes : List Change) (old new : StoreView) : Type 0 wher
   pub between : Between changes old new
   pub fails : Fails old new
 
--- `commit` makes all changes; or the disk failed, and a crash leaves all of them or none; or nothing
--- changed, since there was no room for them, with these numbers, or the store is worn out, or there
--- was not the memory
+-- `commit` makes all changes; or the disk failed, and a crash leaves all of them or none; or
+-- nothing changed, since there was no room for them, with these numbers, or the store is worn out,
+-- or there was not the memory
 abbrev pub Committed : List Change → StoreView → StoreView → Result (Unit {0}) StoreFault → Type 0
 Committed changes old new (Ok done) = Made changes old new
 Committed changes old new (Err Disk) = MayBeMade changes old new

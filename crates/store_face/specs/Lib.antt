@@ -1,4 +1,5 @@
--- the promise of a store: what its calls answer and leave, what is known of it, its room, its limits
+-- the promise of a store: what its calls answer and leave, what is known of it, its room, its
+-- limits
 pub mod Calls
 pub mod Views
 pub mod Rooms

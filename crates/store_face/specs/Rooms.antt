@@ -76,8 +76,8 @@ has_put (Remove key ∷ changes) = has_put changes
 abbrev pub HasBlocks : (blocks : ℕ) → Table → List Change → Type 0
 HasBlocks blocks t changes = blocks_used t + sum_by blocks_put changes ≤ blocks
 
--- A store in blocks lacks room exactly where the blocks do not suffice; or, where they do and a value
--- is put, where the index of the map with the changes is too large.
+-- A store in blocks lacks room exactly where the blocks do not suffice; or, where they do and a
+-- value is put, where the index of the map with the changes is too large.
 abbrev pub BlockLacks : (blocks area : ℕ) → Table → List Change → Option Lack → Type 0
 BlockLacks blocks area t changes None =
     HasBlocks blocks t changes

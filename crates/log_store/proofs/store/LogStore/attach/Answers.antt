@@ -1,4 +1,4 @@
-use Rattle.std.proofs.Common.{◌∙◌, ◌≡◌, ◌+◌, refl, ap, map, true, List, [], ◌∷◌, ◌++◌}
+use Rattle.std.proofs.Common.{◌∙◌, ◌≡◌, refl, ap, map, true, List, [], ◌∷◌, ◌++◌}
 use Rattle.tier_outside.specs.Moments.{told}
 use Rattle.store_face.specs.Views.{CrashMaps, alone}
 use Rattle.log_image.specs.Standing.{ends_at}

@@ -1,10 +1,8 @@
 use Rattle.std.proofs.Common.{◌∙◌, ◌≡◌, ◌+◌, ap, map, true, [], ◌∷◌, ◌++◌}
 use Rattle.tier_outside.proofs.Moments.{last_push}
-use Rattle.gate_journal.specs.declared.journal.Journal.{Journal}
 use Rattle.pool_map.specs.Pools.{PoolView}
 use Rattle.store_face.specs.Views.{alone, no_map}
-use Rattle.log_image.specs.Standing.{ends_at}
-use Rattle.log_store.specs.Inner.{IsWhole, crash_of, held, last}
+use Rattle.log_store.specs.Inner.{crash_of, held, last}
 use Rattle.log_store.specs.Views.{store_of}
 use Rattle.log_store.proofs.Commits.{sound}
 use Rattle.log_store.proofs.Reopens.{not_reopened, reopened, reopened_read, whole_opened, whole_stopped}
