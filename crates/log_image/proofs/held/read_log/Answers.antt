@@ -6,7 +6,7 @@ use Rattle.gate_journal.specs.Stands.{StandsAs}
 use Rattle.gate_journal.proofs.Walks.{err_is}
 use Rattle.log_image.specs.Calls.{ReadEnds}
 use Rattle.log_image.proofs.Found.{read_held, read_refused}
-use Rattle.log_image.proofs.held.read.Goals as goal
+use Rattle.log_image.proofs.held.read_log.Goals as goal
 
 pub returns-in_err-map-clause-read : goal.returns-in_err-map-clause-read
 returns-in_err-map-clause-read g c =

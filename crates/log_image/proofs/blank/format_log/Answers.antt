@@ -1,6 +1,6 @@
 use Rattle.log_image.specs.Standing.{BlankOrNew}
 use Rattle.log_image.proofs.Blanks.{short_left, staged_left, leaves_on}
-use Rattle.log_image.proofs.blank.format.Goals as goal
+use Rattle.log_image.proofs.blank.format_log.Goals as goal
 
 pub returns-in_err-close_first-clause-any_moment : goal.returns-in_err-close_first-clause-any_moment
 returns-in_err-close_first-clause-any_moment g c = short_left c.args.role c.args.pair _ _ c.in_err-close_first.ensures.any_moment

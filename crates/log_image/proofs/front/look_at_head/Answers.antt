@@ -1,6 +1,6 @@
 use Rattle.std.proofs.Common.{refl}
 use Rattle.log_image.proofs.Looks.{looked}
-use Rattle.log_image.proofs.front.look.Goals as goal
+use Rattle.log_image.proofs.front.look_at_head.Goals as goal
 
 pub returns-clause-front : goal.returns-clause-front
 returns-clause-front g c =
