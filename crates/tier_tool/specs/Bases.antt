@@ -2,7 +2,8 @@
 use Rattle.std.specs.Prelude.{◌≡◌, ◌↔◌, ◌⊎◌, ◌<◌, ◌≤◌, ℕ, ◌+◌, Bool, true, false, List, ◌∷◌, Option, Some, None, Result, Ok, Err, if◌then◌else◌}
 use Rattle.std.specs.FinMap as fin
 use Rattle.store_face.specs.Tables.{Table}
-use Rattle.store_face.specs.Views.{StoreView, Sides, Now, Holds, grown}
+use Rattle.tier_outside.specs.Moments.{grown}
+use Rattle.store_face.specs.Views.{StoreView, CrashMaps, Now, Holds}
 use Rattle.store_face.specs.Calls.{Stays, Fails}
 use Rattle.rec_codec.specs.Spelling.{SpellsState}
 use Rattle.obj_model.specs.declared.state.NameState.{NameState}
@@ -75,8 +76,8 @@ abbrev pub BeforeOrAfter : Plain → Task → Table → Type 0
 BeforeOrAfter p line u = StandsFor u p.store ⊎ StandsFor u (after p line).store
 
 -- what a stop leaves where the disk failed in a line
-abbrev pub InDoubt : Task → Table → Sides → Type 0
-InDoubt line t s = (p : Plain) → StandsFor t p.store → BeforeOrAfter p line s.before × BeforeOrAfter p line s.after
+abbrev pub InDoubt : Task → Table → CrashMaps → Type 0
+InDoubt line t s = (p : Plain) → StandsFor t p.store → BeforeOrAfter p line s.before.table × BeforeOrAfter p line s.after.table
 
 -- where no request acted nothing was written: no moment came
 abbrev pub WritesOnlyIf : Bool → StoreView → StoreView → Type 0
@@ -95,5 +96,5 @@ LineEnds line old new (Err fault.NoMemory) = Stays old new
 
 -- more moments came; a store that does not tell its maps still does not
 pub record GoesOn (old new : StoreView) : Type 0 where
-  pub more : List Sides
+  pub more : List CrashMaps
   pub grew : new.moments ≡ grown old.moments more

@@ -4,7 +4,8 @@ use Rattle.obj_model.specs.declared.change.Pool.TheVariants.{Base}
 use Rattle.obj_model.specs.declared.req.Req.{Req}
 use Rattle.obj_ops.specs.Stores.{Store, replay}
 use Rattle.store_face.specs.Tables.{Table}
-use Rattle.log_image.specs.Images.{HoldsMap, Log}
+use Rattle.log_image.specs.Images.{HoldsMap}
+use Rattle.store_face.specs.Views.{Durable}
 use Rattle.log_store.specs.Opens.{OpensAs}
 use Rattle.tier_tool.specs.declared.task.Task.{Task}
 use Rattle.tier_tool.specs.declared.task.Task.TheVariants.{Op, Get}
@@ -39,4 +40,4 @@ RequestsMakeTheStore lines = (store : Store) → (behind lines (begun store)).st
 -- A run that opens a disk which holds a map goes on from the plain store that the map stands for.
 abbrev pub TheNextRunGoesOn : Type 0
 TheNextRunGoesOn =
-    (image : List ℕ) (u : Table) (log : Log) (store : Store) → HoldsMap Base 257 image u → StandsFor u store → OpensAs Base 257 log image → StandsFor log.table store
+    (image : List ℕ) (u : Table) (log : Durable) (store : Store) → HoldsMap Base 257 image u → StandsFor u store → OpensAs Base 257 log image → StandsFor log.table store

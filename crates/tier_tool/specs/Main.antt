@@ -12,7 +12,8 @@ use Rattle.tier_outside.specs.DiskMoments.{Now, SomeImage}
 use Rattle.tier_outside.specs.Streams.{Loses, Gains}
 use Rattle.store_face.specs.Tables.{Table}
 use Rattle.log_image.specs.Fronts.{IsBad, IsOf}
-use Rattle.log_image.specs.Images.{HoldsMap, Log}
+use Rattle.log_image.specs.Images.{HoldsMap}
+use Rattle.store_face.specs.Views.{Durable}
 use Rattle.log_store.specs.Opens.{OpeningStops, OpensAs}
 use Rattle.tier_tool.specs.declared.pair.DiskPair.{DiskPair}
 use Rattle.tier_tool.specs.declared.reading.Unread.{Unread}
@@ -165,7 +166,7 @@ pub record CarriesLines (lines : List Numbered) (room : ℕ) (disk_rose sink_ros
   pub left : List Numbered
   pub ending : Ending
   pub ends : EndsAs disk_rose sink_rose said left ending put status
-  pub from : SomeImage base_old (λ image. (log : Log) × OpensAs Base 257 log image
+  pub from : SomeImage base_old (λ image. (log : Durable) × OpensAs Base 257 log image
       × ((store : Store) → StandsFor log.table store → SaidFrom log.table room (standing store log.used) lines said left ending base_new))
 
 -- the script is accepted, and its lines are carried out

@@ -9,7 +9,7 @@ use Rattle.obj_ops.specs.declared.request.Acted.{Acted}
 use Rattle.obj_ops.specs.declared.request.Acted.TheVariants.{Fresh, Again, Stale, Worn}
 use Rattle.rec_codec.specs.Spelling.{state_bytes}
 use Rattle.store_face.specs.Views.{Holds}
-use Rattle.log_store.specs.Commits.{need}
+use Rattle.store_face.specs.Rooms.{record_size}
 use Rattle.log_store.specs.Views.{LogView, store_of}
 use Rattle.tier_tool.specs.declared.task.Task.{Task}
 use Rattle.tier_tool.specs.declared.task.Task.TheVariants.{Op, Get}
@@ -24,7 +24,7 @@ change_of name s = Put (state_key name) (state_bytes s) ∷ []
 
 -- What a request of this name takes of the room where it was answered so: where it acts, the record of its change.
 abbrev pub cost_of : List ℕ → Acted → ℕ
-cost_of name (Fresh s reply) = need (change_of name s)
+cost_of name (Fresh s reply) = record_size (change_of name s)
 cost_of name (Again reply) = 0
 cost_of name (Stale kept) = 0
 cost_of name (Worn limit) = 0
@@ -52,9 +52,9 @@ LineUses line old new (Err fault.NoMemory) = new.used ≡ old.used
 
 -- the same of the putting of a name's state
 abbrev pub PutUses : List ℕ → NameState → LogView → LogView → Result (Unit {0}) LineFault → Type 0
-PutUses name s old new (Ok done) = (old.used + need (change_of name s) ≤ old.room) × (new.used ≡ old.used + need (change_of name s))
+PutUses name s old new (Ok done) = (old.used + record_size (change_of name s) ≤ old.room) × (new.used ≡ old.used + record_size (change_of name s))
 PutUses name s old new (Err (fault.NoSpace used more limit)) =
-    (used ≡ old.used) × (limit ≡ old.room) × (old.room < old.used + more) × (new.used ≡ old.used) × (more ≡ need (change_of name s))
+    (used ≡ old.used) × (limit ≡ old.room) × (old.room < old.used + more) × (new.used ≡ old.used) × (more ≡ record_size (change_of name s))
 PutUses name s old new (Err fault.BadRecord) = ⊥
 PutUses name s old new (Err fault.Disk) = Unit {0}
 PutUses name s old new (Err fault.NoMemory) = new.used ≡ old.used

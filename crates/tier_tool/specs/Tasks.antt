@@ -1,5 +1,5 @@
 -- What lines of a script ask of the base, and the first line that asks for something else.
-use Rattle.std.specs.Prelude.{◌≡◌, ◌≤◌, ◌^◌, ℕ, Bool, true, false, List, [], ◌∷◌, ◌++◌, map}
+use Rattle.std.specs.Prelude.{◌≡◌, ◌≤◌, ◌^◌, ℕ, Bool, true, false, List, [], ◌∷◌, ◌++◌, map, Option, Some, None}
 use Rattle.std.specs.List.{list_any}
 use Rattle.obj_model.specs.SubOps.{is_write}
 use Rattle.script_lang.specs.Spelling.{IsAddressed}
@@ -26,6 +26,11 @@ abbrev pub is_built : Line → Bool
 is_built (line.Op req) = true
 is_built (line.Get client name vector) = true
 is_built other = false
+
+-- a line asks this; or its verb is not built
+abbrev pub AsksFor : Line → Option Task → Type 0
+AsksFor l (Some t) = l ≡ line_of t
+AsksFor l None = is_built l ≡ false
 
 -- a request within its limits, which writes; or a reading, which does not
 abbrev pub IsTask : Task → Type 0

@@ -54,14 +54,13 @@ pub fn answer<D: Disk + Drop>(
     line: &Task,
 ) -> Result<(Answer, bool), LineFault>
     requires live { (store_of pool.old).live ≡ true }
+    requires sound { Sound (store_of pool.old) }
     requires lawful { IsTask line.now }
     ensures ended { LineEnds line.now (store_of pool.old) (store_of pool.new) result }
     ensures uses { LineUses line.now pool.old pool.new result }
     ensures same { SameStore pool.old pool.new }
     ensures goes_on { GoesOn (store_of pool.old) (store_of pool.new) }
 {
-    // A live store has one map, which is a fact that this call brings along.
-    let _ = pool.is_live();
     match line {
         Task::Op(req) => request(alloc, pool, req),
         Task::Get { name, vector, .. } => reading(alloc, pool, name, vector),

@@ -37,6 +37,7 @@ pub fn say_line<D: Disk + Drop>(
     pool: &mut LogStore<D>,
 ) -> Result<(), Unsaid>
     requires live { pool.old.live ≡ true }
+    requires sound { Sound (store_of pool.old) }
     requires lawful { IsTask numbered.now.line }
     requires room { acts.old < 2 ^ 64 - 1 }
     ensures said { SayEnds numbered.now acts.old acts.new pool.old pool.new text.new result (Rose pool.old.faults pool.new.faults) }

@@ -1,6 +1,6 @@
 //! What a line asks of the base: the part of the script language that is carried out so far.
 ghost use Rattle.std.specs.Prelude.{◌≡◌, map, MatchResult};
-ghost use Rattle.tier_tool.specs.Tasks.{Refuses, as_line};
+ghost use Rattle.tier_tool.specs.Tasks.{AsksFor, Refuses, as_line};
 
 use obj_model::{Name, Req, Vector};
 use script_lang::Line;
@@ -35,6 +35,25 @@ pub enum Untold {
     NoMemory,
 }
 
+// What a line asks, where its verb is built.
+fn task_of(line: Line) -> Option<Task>
+    ensures { AsksFor line result }
+{
+    match line {
+        Line::Op(req) => Some(Task::Op(req)),
+        Line::Get {
+            client,
+            name,
+            vector,
+        } => Some(Task::Get {
+            client,
+            name,
+            vector,
+        }),
+        _ => None,
+    }
+}
+
 /// What lines ask, where all of their verbs are built.
 pub fn tasks_of(alloc: Global, lines: Vec<script_lang::Numbered>) -> Result<Vec<Numbered>, Untold>
     ensures { MatchResult result
@@ -42,22 +61,15 @@ pub fn tasks_of(alloc: Global, lines: Vec<script_lang::Numbered>) -> Result<Vec<
         (λ untold. Refuses lines.items untold) }
 {
     let mut tasks = Vec::new(alloc);
-    for script_lang::Numbered { number, line } in lines {
-        let task = match line {
-            Line::Op(req) => Task::Op(req),
-            Line::Get {
-                client,
-                name,
-                vector,
-            } => Task::Get {
-                client,
-                name,
-                vector,
-            },
-            _ => return Err(Untold::Unbuilt { line: number }),
-        };
-        if tasks.push(Numbered { number, line: task }).is_err() {
-            return Err(Untold::NoMemory);
+    for numbered in lines {
+        let number = numbered.number;
+        match task_of(numbered.line) {
+            Some(line) => {
+                if tasks.push(Numbered { number, line }).is_err() {
+                    return Err(Untold::NoMemory);
+                }
+            }
+            None => return Err(Untold::Unbuilt { line: number }),
         }
     }
     Ok(tasks)

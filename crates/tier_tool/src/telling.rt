@@ -20,7 +20,6 @@ use log_store::{AttachFault, LogStore};
 use obj_model::NoMemory;
 use script_lang::Cause;
 use std::alloc::Global;
-use store_face::Store;
 use tier_outside::{Disk, Sink};
 
 /// Puts one text. The status is the one that is due where the sink takes it.
@@ -79,6 +78,7 @@ pub fn tell_lines<D: Disk + Drop, K: Sink>(
     out: &mut K,
 ) -> u8
     requires live { pool.old.live ≡ true }
+    requires sound { Sound (store_of pool.old) }
     requires lawful { All (λ n. IsTask n.line) lines.now }
     ensures told { Took (K.held out.old) (K.held out.new) (λ put. TellsLines lines.now pool.old pool.new (Rose pool.old.faults pool.new.faults) (Rose (K.faults out.old) (K.faults out.new)) put result) }
     ensures same { SameStore pool.old pool.new }
@@ -86,8 +86,6 @@ pub fn tell_lines<D: Disk + Drop, K: Sink>(
     ensures sink_later { K.faults out.old ≤ K.faults out.new }
     ensures disk_later { pool.old.faults ≤ pool.new.faults }
 {
-    // A live store has one map, which is a fact that this call brings along.
-    let _ = pool.is_live();
     let mut text = Text::new(alloc);
     let mut acts = 0;
     for numbered in lines {
@@ -109,6 +107,7 @@ fn tell_line<D: Disk + Drop, K: Sink>(
     out: &mut K,
 ) -> Result<(), u8>
     requires live { pool.old.live ≡ true }
+    requires sound { Sound (store_of pool.old) }
     requires lawful { IsTask numbered.now.line }
     requires room { acts.old < 2 ^ 64 - 1 }
     ensures told { Took (K.held out.old) (K.held out.new) (λ put. TellsLine numbered.now acts.old acts.new pool.old pool.new (Rose pool.old.faults pool.new.faults) (Rose (K.faults out.old) (K.faults out.new)) put result) }
