@@ -23,7 +23,7 @@ use Rattle.tier_tool.specs.Lines.{EndsAs, Ending, IsLeft, Said, SaysFrom, Standi
 use Rattle.tier_tool.specs.Lines.Ending.{Whole, Unheard, Stopped}
 use Rattle.tier_tool.specs.Main.{BackLeaves, Carries, IsReadWhole, RunEnds, SaidFrom}
 use Rattle.tier_tool.specs.Tasks.{as_line}
-use Rattle.script_lang.specs.declared.line.Numbered as script
+use Rattle.script_lang.specs.declared.line.Numbered as lang
 use Rattle.tier_tool.specs.Telling.{CarriesTasks, RunsOn, TellsUnopened}
 use Rattle.tier_tool.specs.Texts.{bad_image_text, wrong_pair_text}
 use Rattle.tier_tool.proofs.Told.{rose_later}
@@ -165,7 +165,7 @@ tasks_carry script tasks room disk_rose sink_rose old new put status is (inr (in
     inr (inr (inr (inr (inr (record { lines = tasks; is_script = is; carried = carries })))))
 
 -- what lines of a script do is what the script does
-pub script_carries : (script : List ℕ) (lines : List script.Numbered) (room : ℕ) (disk_rose sink_rose : Type 0) (old new : DiskMoments) (put : List ℕ) (status : ℕ)
+pub script_carries : (script : List ℕ) (lines : List lang.Numbered) (room : ℕ) (disk_rose sink_rose : Type 0) (old new : DiskMoments) (put : List ℕ) (status : ℕ)
     → IsScript script lines → CarriesTasks lines room disk_rose sink_rose old new put status
     → Carries script room disk_rose sink_rose old new put status
 script_carries script lines room disk_rose sink_rose old new put status is (inl lacks) = inl lacks

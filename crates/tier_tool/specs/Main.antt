@@ -6,7 +6,7 @@ use Rattle.obj_ops.specs.Stores.{Store}
 use Rattle.script_lang.specs.Scripts.{IsScript, IsFault}
 use Rattle.tier_tool.specs.declared.task.Numbered.{Numbered}
 use Rattle.script_lang.specs.declared.cause.Cause.{Cause}
-use Rattle.script_lang.specs.declared.line.Numbered as script
+use Rattle.script_lang.specs.declared.line.Numbered as lang
 use Rattle.tier_outside.specs.Disk.{DiskMoment, EachImage, IsImage}
 use Rattle.tier_outside.specs.DiskMoments.{Now, SomeImage}
 use Rattle.tier_outside.specs.Streams.{Loses, Gains}
@@ -128,7 +128,7 @@ pub record TellsFault (script : List ℕ) (sink_rose : Type 0) (base_old base_ne
 
 -- the script is accepted, and the verb of a line is not built yet: the first such line is told, with status 4, and no disk is touched
 pub record TellsUnbuilt (script : List ℕ) (sink_rose : Type 0) (base_old base_new : Option (List DiskMoment)) (put : List ℕ) (status : ℕ) : Type 0 where
-  pub lines : List script.Numbered
+  pub lines : List lang.Numbered
   pub is_script : IsScript script lines
   pub number : ℕ
   pub unbuilt : IsFirstUnbuilt lines number

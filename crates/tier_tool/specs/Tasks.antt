@@ -5,7 +5,7 @@ use Rattle.obj_model.specs.SubOps.{is_write}
 use Rattle.script_lang.specs.Spelling.{IsAddressed}
 use Rattle.script_lang.specs.declared.line.Line.{Line}
 use Rattle.script_lang.specs.declared.line.Line.TheVariants as line
-use Rattle.script_lang.specs.declared.line.Numbered as script
+use Rattle.script_lang.specs.declared.line.Numbered as lang
 use Rattle.tier_tool.specs.declared.task.Numbered.{Numbered}
 use Rattle.tier_tool.specs.declared.task.Task.{Task}
 use Rattle.tier_tool.specs.declared.task.Task.TheVariants as task
@@ -18,7 +18,7 @@ line_of (task.Op req) = line.Op req
 line_of (task.Get client name vector) = line.Get client name vector
 
 -- the same with its number
-abbrev pub as_line : Numbered → script.Numbered
+abbrev pub as_line : Numbered → lang.Numbered
 as_line n = record { number = n.number; line = line_of n.line }
 
 -- the lines whose verbs are built: requests and readings
@@ -39,15 +39,15 @@ IsTask (task.Op req) =
 IsTask (task.Get client name vector) = IsAddressed client name vector × (list_any is_write vector ≡ false)
 
 -- the first line whose verb is not built has this number
-pub record IsFirstUnbuilt (lines : List script.Numbered) (number : ℕ) : Type 0 where
+pub record IsFirstUnbuilt (lines : List lang.Numbered) (number : ℕ) : Type 0 where
   pub before : List Numbered
-  pub first : script.Numbered
-  pub others : List script.Numbered
+  pub first : lang.Numbered
+  pub others : List lang.Numbered
   pub split : lines ≡ map as_line before ++ first ∷ others
   pub unbuilt : is_built first.line ≡ false
   pub counted : number ≡ first.number
 
 -- why lines are not carried out; want of memory is free
-abbrev pub Refuses : List script.Numbered → Untold → Type 0
+abbrev pub Refuses : List lang.Numbered → Untold → Type 0
 Refuses lines (Unbuilt number) = IsFirstUnbuilt lines number
 Refuses lines NoMemory = Unit {0}

@@ -13,7 +13,7 @@ use Rattle.store_face.specs.Views.{StoreView, Sound, Now, Holds}
 use Rattle.tier_tool.specs.Bases.{GoesOn, InDoubt, SameUnreadable, StandsFor, name_of}
 use Rattle.tier_tool.specs.Lines.{EndsFailed, EndsFailedUnheard, EndsLacking, IsFront, LineSays, Said, Says, Standing, said_text, standing, texts_of}
 use Rattle.tier_tool.specs.Main.{BaseFailed, CarriesLines, LacksMemory, MakesAndTells, RefusesImage}
-use Rattle.script_lang.specs.declared.line.Numbered as script
+use Rattle.script_lang.specs.declared.line.Numbered as lang
 use Rattle.tier_tool.specs.Tasks.{IsFirstUnbuilt, as_line}
 use Rattle.tier_tool.specs.Texts.{bad_image_text, bad_record_text, no_space_text, unbuilt_text, wrong_pair_text}
 use Rattle.tier_tool.specs.declared.base.LineFault.{LineFault}
@@ -128,7 +128,7 @@ RunsOn lines room disk_rose sink_rose base_old base_new put status =
     ⊎ CarriesLines lines room disk_rose sink_rose base_old base_new put status
 
 -- the verbs of these lines are built, and they were carried out; or the first that is not built was told
-abbrev pub CarriesTasks : List script.Numbered → (room : ℕ) → (disk_rose sink_rose : Type 0) → (base_old base_new : Option (List DiskMoment)) → List ℕ → ℕ → Type 0
+abbrev pub CarriesTasks : List lang.Numbered → (room : ℕ) → (disk_rose sink_rose : Type 0) → (base_old base_new : Option (List DiskMoment)) → List ℕ → ℕ → Type 0
 CarriesTasks lines room disk_rose sink_rose base_old base_new put status =
     LacksMemory base_old base_new put status
     ⊎ ((number : ℕ) × IsFirstUnbuilt lines number × (base_new ≡ base_old) × MakesAndTells (unbuilt_text number ∷ []) 4 sink_rose put status)

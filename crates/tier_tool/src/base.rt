@@ -4,7 +4,7 @@ ghost use Rattle.std.specs.Prelude.{◌≡◌, ℕ, IfOk, None, false, true};
 ghost use Rattle.std.specs.List.{list_any};
 ghost use Rattle.obj_model.specs.Names.{name_fault};
 ghost use Rattle.obj_model.specs.States.{IsState};
-ghost use Rattle.obj_model.specs.Vectors.{is_write};
+ghost use Rattle.obj_model.specs.SubOps.{is_write};
 ghost use Rattle.tier_tool.specs.Tasks.{IsTask};
 ghost use Rattle.tier_tool.specs.declared.task.Task.TheVariants as line;
 ghost use Rattle.log_store.specs.Commits.{SameStore};
