@@ -1,6 +1,6 @@
 //! What the first bytes of disks say, and what formatting leaves, over the disk in memory.
 use crate::tools::{EMPTY, memory, reads_as};
-use log_image::{Front, finish, format, look};
+use log_image::{Front, finish_format, format_log, look_at_head};
 use mem_disk::Pick;
 use obj_model::Pool;
 use std::process::Abort;
@@ -13,11 +13,11 @@ fn open<D: Disk>(rt: &impl Abort, disk: &mut D, pair: u64) -> bool {
     if disk.restart().is_err() {
         return false;
     }
-    match look(disk, Pool::Cache) {
-        Ok(Front::Blank { zeroed }) => format(disk, Pool::Cache, pair, zeroed).is_ok(),
+    match look_at_head(disk, Pool::Cache) {
+        Ok(Front::Blank { zeroed }) => format_log(disk, Pool::Cache, pair, zeroed).is_ok(),
         Ok(Front::HalfOpen { pair: found }) => {
             assert_eq!(rt; found, pair);
-            finish(disk, Pool::Cache, found).is_ok()
+            finish_format(disk, Pool::Cache, found).is_ok()
         }
         Ok(Front::Headed { pair: found }) => found == pair,
         Ok(Front::Bad { .. }) | Err(_) => false,
@@ -34,7 +34,7 @@ fn an_empty_disk_becomes_a_log(rt: HostRuntime) -> Result<(), Fail> {
         assert!(rt; open(&rt, &mut disk, 257));
         reads_as(&rt, &mut disk, EMPTY);
         assert_eq!(rt;
-            look(&mut disk, Pool::Cache),
+            look_at_head(&mut disk, Pool::Cache),
             Ok(Front::Headed { pair: 257 })
         );
     }
@@ -85,11 +85,11 @@ fn a_bad_head_is_told_at_its_place(rt: HostRuntime) -> Result<(), Fail> {
     ];
     for (bytes, at) in bad {
         let mut disk = memory(&rt, alloc, bytes, None, Pick::Old)?;
-        assert_eq!(rt; look(&mut disk, Pool::Cache), Ok(Front::Bad { at }));
+        assert_eq!(rt; look_at_head(&mut disk, Pool::Cache), Ok(Front::Bad { at }));
         assert!(rt; !open(&rt, &mut disk, 257));
         reads_as(&rt, &mut disk, bytes);
     }
     let mut base = memory(&rt, alloc, EMPTY, None, Pick::Old)?;
-    assert_eq!(rt; look(&mut base, Pool::Base), Ok(Front::Bad { at: 13 }));
+    assert_eq!(rt; look_at_head(&mut base, Pool::Base), Ok(Front::Bad { at: 13 }));
     Ok(())
 }

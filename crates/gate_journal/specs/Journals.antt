@@ -1,4 +1,5 @@
--- What a range of bytes means as a journal: the payloads that it spells, or that it is no journal, and where.
+-- What a range of bytes means as a journal: the payloads that it spells, or that it is no journal,
+-- and where.
 use Rattle.std.specs.Prelude.{◌≡◌, ◌≢◌, ◌⊎◌, ℕ, ◌+◌, ◌<◌, ◌≤◌, List, [], ◌∷◌, ◌++◌, length, take, drop, slice_index}
 use Rattle.byteorder.specs.Endian.{big_number, big_bytes}
 
@@ -13,7 +14,8 @@ pub record IsRecord (bytes : List ℕ) (gate : ℕ) (payload : List ℕ) : Type 
   pub body : take (length payload) (drop (gate + 5) bytes) ≡ payload
   pub followed : gate + 5 + length payload < length bytes
 
--- whole records of these payloads stand one after another from a gate up to the next gate behind them
+-- whole records of these payloads stand one after another from a gate up to the next gate behind
+-- them
 abbrev pub AreRecords : List ℕ → ℕ → List (List ℕ) → ℕ → Type 0
 AreRecords bytes gate [] next = gate ≡ next
 AreRecords bytes gate (payload ∷ payloads) next = IsRecord bytes gate payload × AreRecords bytes (gate + 5 + length payload) payloads next
@@ -32,13 +34,14 @@ pub record IsCut (bytes : List ℕ) (gate : ℕ) : Type 0 where
 abbrev pub IsBroken : List ℕ → ℕ → Type 0
 IsBroken bytes gate = (length bytes ≤ gate) ⊎ IsCut bytes gate
 
--- a journal of these payloads with its closed gate at this offset; or none, which breaks at the gate at this offset
+-- a journal of these payloads with its closed gate at this offset; or none, which breaks at the
+-- gate at this offset
 pub data Reading : Type 0 where
   Spelled : List (List ℕ) → ℕ → Reading
   Broken : ℕ → Reading
 
--- These payloads are spelled from an offset on; only bytes before the end count. Their records stand there one after another, and
--- behind them the closed gate.
+-- These payloads are spelled from an offset on; only bytes before the end count. Their records
+-- stand there one after another, and behind them the closed gate.
 pub record Spells (at end : ℕ) (image : List ℕ) (payloads : List (List ℕ)) (next : ℕ) : Type 0 where
   pub records : AreRecords (take end image) at payloads next
   pub gate : IsClosed (take end image) next

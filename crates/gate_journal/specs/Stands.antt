@@ -10,8 +10,8 @@ pub record InRange (journal : Journal) : Type 0 where
   pub last : journal.next < 2 ^ 41
   pub limit : journal.end ≤ 2 ^ 41
 
--- The journal stands on the disk with these payloads, whatever a stop leaves: its bytes up to its closed gate are settled, and spell them.
--- Its end has no part in it.
+-- The journal stands on the disk with these payloads, whatever a stop leaves: its bytes up to its
+-- closed gate are settled, and spell them. Its end has no part in it.
 pub record StandsAs (journal : Journal) (payloads : List (List ℕ)) (d : DiskMoment) : Type 0 where
   pub settled : RangeStands journal.start (journal.next + 1) d
   pub spelled : Spells journal.start (journal.next + 1) d.stable payloads journal.next
@@ -34,6 +34,7 @@ HoldsWithOrWithout journal payloads payload image =
     Spells journal.start journal.end image payloads journal.next
     ⊎ Spells journal.start journal.end image (payloads ++ payload ∷ []) (longer journal payload).next
 
--- what a disk reads as where the open record of a payload and a closed gate behind it stand at a gate
+-- what a disk reads as where the open record of a payload and a closed gate behind it stand at a
+-- gate
 abbrev pub recorded : ℕ → List ℕ → List ℕ → List ℕ
 recorded gate payload old = written gate (1 ∷ behind_gate payload) old

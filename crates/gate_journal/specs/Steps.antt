@@ -1,10 +1,10 @@
 -- The steps of which the journal's calls are made.
-use Rattle.std.specs.Prelude.{◌≡◌, ◌⊎◌, ℕ, ◌+◌, ◌<◌, ◌≤◌, List, [], ◌∷◌, length, take, slice_index, Option, None, Some, Result, Ok, Err}
+use Rattle.std.specs.Prelude.{◌≡◌, ◌⊎◌, ℕ, ◌+◌, ◌-◌, ◌<◌, ◌≤◌, List, [], ◌∷◌, length, take, drop, slice_index, Option, None, Some, Result, Ok, Err}
 use Rattle.store_face.specs.declared.fault.StoreFault.{StoreFault}
 use Rattle.store_face.specs.declared.fault.StoreFault.TheVariants.{Disk, BadImage, NoSpace, Worn, NoMemory}
 use Rattle.tier_outside.specs.Disk.{DiskMoment, IsImage, settled, written, StopsIn}
 use Rattle.tier_outside.specs.DiskMoments.{Now}
-use Rattle.gate_journal.specs.Journals.{IsRecord, IsClosed, IsBroken, size_at}
+use Rattle.gate_journal.specs.Journals.{IsRecord, IsClosed, IsBroken, behind_gate, size_at}
 
 -- these bytes are written behind a gate
 abbrev pub staged : ℕ → List ℕ → List ℕ → List ℕ
@@ -14,7 +14,8 @@ staged gate body old = written (gate + 1) body old
 abbrev pub opened : ℕ → List ℕ → List ℕ → List ℕ
 opened gate body old = written gate (1 ∷ []) (staged gate body old)
 
--- What a stop leaves while a record is added: before all is settled behind the gate nothing else is touched, and then nothing but the gate.
+-- What a stop leaves while a record is added: before all is settled behind the gate nothing else is
+-- touched, and then nothing but the gate.
 abbrev pub AddStops : ℕ → List ℕ → DiskMoment → List ℕ → Type 0
 AddStops gate body d image =
     StopsIn (gate + 1) (length body) d image
@@ -36,7 +37,8 @@ pub record IsOpen (bytes : List ℕ) (gate size : ℕ) : Type 0 where
   pub opened : slice_index bytes gate ≡ 1
   pub size_is : size_at bytes gate ≡ size
 
--- the head of a record was read below a limit: it is closed, or the length of a payload that is there with a gate behind it
+-- the head of a record was read below a limit: it is closed, or the length of a payload that is
+-- there with a gate behind it
 abbrev pub HeadRead : (gate limit : ℕ) → Option (List DiskMoment) → (failed : Type 0) → Result (Option ℕ) StoreFault → Type 0
 HeadRead gate limit moments failed (Ok None) = (gate < limit) × Now moments (λ d. IsClosed (take limit d.content) gate)
 HeadRead gate limit moments failed (Ok (Some size)) =
@@ -57,3 +59,11 @@ RecordRead gate limit moments failed (Err Disk) = failed
 RecordRead gate limit moments failed (Err NoMemory) = Unit {0}
 RecordRead gate limit moments failed (Err (NoSpace u n l)) = ⊥
 RecordRead gate limit moments failed (Err (Worn l)) = ⊥
+
+-- the payload of what is written behind a gate
+abbrev pub payload_of : List ℕ → List ℕ
+payload_of body = take (length body - 5) (drop 4 body)
+
+-- the bytes are all that is written behind the gate of a payload
+pub record IsBody (body : List ℕ) : Type 0 where
+  pub is : body ≡ behind_gate (payload_of body)

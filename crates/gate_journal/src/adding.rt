@@ -1,6 +1,6 @@
 //! Adding records to a journal, so that at each moment a stop leaves a record whole or not there.
 ghost use Rattle.std.specs.Prelude.{◌≡◌, ◌⊎◌, ◌+◌, ◌<◌, ◌≤◌, ◌^◌, List, ℕ, [], ◌∷◌, ◌++◌, length, IfOk, OnOk, OnErr};
-ghost use Rattle.tier_outside.specs.Causes.{Rose};
+ghost use Rattle.tier_outside.specs.Causes.{HasCause, Rose};
 ghost use Rattle.tier_outside.specs.Disk.{settled, StopsIn};
 ghost use Rattle.tier_outside.specs.DiskMoments.{Now, Then, Leaves};
 ghost use Rattle.gate_journal.specs.Calls.{AddEnds};
@@ -8,17 +8,18 @@ ghost use Rattle.gate_journal.specs.Journals.{IsClosed};
 ghost use Rattle.gate_journal.specs.Stands.{InRange, Standing, StandsAs, HoldsWithOrWithout, gate_alone, longer, recorded};
 
 use crate::Journal;
-use crate::record::record_body;
+use crate::record::{Record, record_body};
 use crate::step::{add_record, close_gate};
 use std::alloc::Global;
 use store_face::StoreFault;
-use tier_outside::Disk;
+use tier_outside::{Disk, DiskFault};
 
-/// Begins a journal at an offset with its first payload (below 2^32 bytes), all of it before the end (at most 2^41), and settles it. A
-/// first gate that is open or not there is closed before.
+/// Begins a journal at an offset with its first payload (below 2^32 bytes), all of it before the
+/// end (at most 2^41), and settles it. A first gate that is open or not there is closed before.
 ///
-/// `NoSpace` comes exactly where the record and the gate behind it do not fit before the end: used is the offset, need is the payload and
-/// 6 bytes, the limit is the end. Without space or memory nothing is written.
+/// `NoSpace` comes exactly where the record and the gate behind it do not fit before the end: used
+/// is the offset, need is the payload and 6 bytes, the limit is the end. Without space or memory
+/// nothing is written.
 pub fn start<D: Disk>(
     alloc: Global,
     disk: &mut D,
@@ -37,10 +38,12 @@ pub fn start<D: Disk>(
     ensures stands { IfOk result (λ journal. Now (D.moments disk.new) (StandsAs journal (first.now ∷ []))) }
     ensures standing { IfOk result (λ journal. Now (D.moments disk.new) (Standing journal)) }
 
-    // Where a closed gate stood at the offset, a stop at any moment of the call leaves a closed gate there, or the whole record.
+    // Where a closed gate stood at the offset, a stop at any moment of the call leaves a closed
+    // gate there, or the whole record.
     ensures closed_before { Leaves (D.moments disk.old) (D.moments disk.new) (λ d image. StandsAs (gate_alone at end) [] d → HoldsWithOrWithout (gate_alone at end) [] first.now image) }
 
-    // Where none was read there, it may also leave what it might have left before, but for that one byte.
+    // Where none was read there, it may also leave what it might have left before, but for that one
+    // byte.
     ensures open_before { Leaves (D.moments disk.old) (D.moments disk.new) (λ d image. ¬ IsClosed d.content at → StopsIn at 1 d image ⊎ HoldsWithOrWithout (gate_alone at end) [] first.now image) }
 
     // Outside of the record and the gate behind it, it leaves what it might have left before.
@@ -63,11 +66,44 @@ pub fn start<D: Disk>(
     Ok(Journal { start, next, end })
 }
 
-/// Appends a payload (below 2^32 bytes) to a journal as the last `start`, `walk` or Ok of `append` left it, and settles it.
+/// Adds a record behind a journal as the last `start`, `walk`, `add` or `append` that answered Ok
+/// left it, below its end, and settles it. It takes no memory, and only the disk makes it fail.
+/// After that the journal has to be walked again before the next record is added.
+pub fn add<D: Disk>(disk: &mut D, journal: &mut Journal, more: Record) -> Result<(), DiskFault>
+    requires in_range { InRange journal.old }
+    requires size { length more < 2 ^ 32 }
+    requires fits { journal.old.next + 6 + length more ≤ journal.old.end }
+    requires standing { Now (D.moments disk.old) (Standing journal.old) }
+
+    ensures cause { HasCause (D.faults disk.old) (D.faults disk.new) result }
+    ensures moved { OnOk result (journal.new ≡ longer journal.old more) }
+    ensures kept { OnErr result (journal.new ≡ journal.old) }
+    ensures written { OnOk result (Then (D.moments disk.old) (D.moments disk.new)
+        (λ d e. e ≡ settled (recorded journal.old.next more d.content))) }
+    ensures stands { OnOk result (Then (D.moments disk.old) (D.moments disk.new)
+        (λ d e. (payloads : List (List ℕ)) → StandsAs journal.old payloads d → StandsAs journal.new (payloads ++ more ∷ []) e)) }
+    ensures standing { OnOk result (Now (D.moments disk.new) (Standing journal.new)) }
+
+    // A stop at any moment of the call leaves the payloads from before it, with the new one or
+    // without.
+    ensures any_moment { Leaves (D.moments disk.old) (D.moments disk.new)
+        (λ d image. (payloads : List (List ℕ)) → StandsAs journal.old payloads d → HoldsWithOrWithout journal.old payloads more image) }
+
+    // Outside of the record and the gate behind it, it leaves what it might have left before.
+    ensures outside { Leaves (D.moments disk.old) (D.moments disk.new) (StopsIn journal.old.next (length more + 6)) }
+{
+    let body = more.bytes();
+    add_record(disk, journal.next, body)?;
+    journal.next += body.len() as u64;
+    Ok(())
+}
+
+/// Appends a payload (below 2^32 bytes) to a journal: its record is made and added.
 ///
-/// `NoSpace` comes exactly where the record and the gate behind it do not fit before the journal's end: used is the offset behind its
-/// closed gate, need is the payload and 5 bytes, the limit is the end. Without space or memory nothing is written. After `Disk` the
-/// journal has to be walked again before the next append.
+/// `NoSpace` comes exactly where the record and the gate behind it do not fit before the journal's
+/// end: used is the offset behind its closed gate, need is the payload and 5 bytes, the limit is
+/// the end. Without space or memory nothing is written. After `Disk` the journal has to be walked
+/// again before the next append.
 pub fn append<D: Disk>(
     alloc: Global,
     disk: &mut D,
@@ -86,7 +122,8 @@ pub fn append<D: Disk>(
     ensures stands { OnOk result (Then (D.moments disk.old) (D.moments disk.new) (λ d e. (payloads : List (List ℕ)) → StandsAs journal.old payloads d → StandsAs journal.new (payloads ++ payload.now ∷ []) e)) }
     ensures standing { OnOk result (Now (D.moments disk.new) (Standing journal.new)) }
 
-    // A stop at any moment of the call leaves the payloads from before it, with the new one or without.
+    // A stop at any moment of the call leaves the payloads from before it, with the new one or
+    // without.
     ensures any_moment { Leaves (D.moments disk.old) (D.moments disk.new)
         (λ d image. (payloads : List (List ℕ)) → StandsAs journal.old payloads d → HoldsWithOrWithout journal.old payloads payload.now image) }
 
@@ -94,17 +131,11 @@ pub fn append<D: Disk>(
     ensures outside { Leaves (D.moments disk.old) (D.moments disk.new) (StopsIn journal.old.next (length payload.now + 6)) }
     ensures later { D.faults disk.old ≤ D.faults disk.new }
 {
-    let used = journal.next + 1;
-    let need = payload.len() as u64 + 5;
-    if journal.end < used + need {
-        return Err(StoreFault::NoSpace {
-            used,
-            need,
-            limit: journal.end,
-        });
+    match Record::new(alloc, journal, payload) {
+        Ok(record) => {
+            add(disk, journal, record)?;
+            Ok(())
+        }
+        Err(fault) => Err(fault),
     }
-    let body = record_body(alloc, payload)?;
-    add_record(disk, journal.next, body.as_slice())?;
-    journal.next += need;
-    Ok(())
 }

@@ -1,7 +1,9 @@
-//! A journal on a disk: records of bytes one after another, each of which is whole or not there after any stop.
+//! A journal on a disk: records of bytes one after another, each of which is whole or not there
+//! after any stop.
 //!
-//! A record is a gate (1 byte), the payload's length (4 bytes, the greatest first) and the payload; behind the last record stands one
-//! more gate. A gate of value 1 is open; any other is closed and ends the journal.
+//! A record is a gate (1 byte), the payload's length (4 bytes, the greatest first) and the payload;
+//! behind the last record stands one more gate. A gate of value 1 is open; any other is closed and
+//! ends the journal.
 #![tactic(auto)]
 
 mod adding;
@@ -10,7 +12,8 @@ mod reading;
 mod record;
 mod step;
 
-pub use adding::{append, start};
+pub use adding::{add, append, start};
 pub use journal::Journal;
 pub use reading::walk;
+pub use record::Record;
 pub use step::put;

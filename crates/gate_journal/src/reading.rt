@@ -13,11 +13,13 @@ use std::alloc::Global;
 use store_face::StoreFault;
 use tier_outside::Disk;
 
-/// Reads the journal that begins at an offset, of which only bytes before the end count (offsets of at most 2^41): its payloads in their
-/// order, and where it stands, to append to it. It writes nothing.
+/// Reads the journal that begins at an offset, of which only bytes before the end count (offsets of
+/// at most 2^41): its payloads in their order, and where it stands, to append to it. It writes
+/// nothing.
 ///
-/// `BadImage` tells the gate that breaks it: the first one where that does not lie on the disk and before the end, or an open one whose
-/// payload or following gate does not. Over a disk that does not tell its content the same answers come, of what it gives.
+/// `BadImage` tells the gate that breaks it: the first one where that does not lie on the disk and
+/// before the end, or an open one whose payload or following gate does not. Over a disk that does
+/// not tell its content the same answers come, of what it gives.
 pub fn walk<D: Disk>(
     alloc: Global,
     disk: &mut D,

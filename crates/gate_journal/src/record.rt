@@ -3,12 +3,16 @@ ghost use Rattle.std.specs.Prelude.{◌≡◌, ◌+◌, ◌<◌, ◌≤◌, ◌^
 ghost use Rattle.tier_outside.specs.Causes.{Rose};
 ghost use Rattle.tier_outside.specs.DiskMoments.{Now};
 ghost use Rattle.gate_journal.specs.Journals.{behind_gate};
+ghost use Rattle.gate_journal.specs.Calls.{AddEnds};
+ghost use Rattle.gate_journal.specs.Stands.{InRange};
 ghost use Rattle.gate_journal.specs.Steps.{HeadRead, RecordRead};
 
+use crate::Journal;
 use crate::step::{CLOSED, OPEN};
 use byteorder::{BigEndian, ByteOrder};
 use obj_model::Bytes;
 use std::alloc::{AllocError, Global};
+use std::marker::Model;
 use store_face::StoreFault;
 use tier_outside::Disk;
 
@@ -26,8 +30,61 @@ pub fn record_body(alloc: Global, payload: &[u8]) -> Result<Vec<u8>, AllocError>
     Ok(body)
 }
 
-// The length of the payload behind an open gate, or `None` behind a closed one. Below the limit the payload and the gate behind it are
-// there.
+/// A record that is to be added behind a journal. Contracts see its payload.
+#[derive(Debug, Drop)]
+pub struct Record {
+    body: Vec<u8>,
+}
+
+impl Model for Record {
+    ghost use Rattle.std.specs.Prelude.{List, ℕ};
+    ghost use Rattle.std.specs.Coded.{coded_ℕ, coded_list};
+    ghost use Rattle.gate_journal.specs.Steps.{IsBody, payload_of};
+
+    ghost Value = { List ℕ };
+
+    ghost coded = { coded_list coded_ℕ };
+
+    ghost view = { λ r. payload_of r.body.items };
+
+    ghost invariant = { λ r. IsBody r.body.items };
+}
+
+impl Record {
+    /// Makes the record of a payload (below 2^32 bytes) for a journal.
+    ///
+    /// `NoSpace` comes exactly where the record and the gate behind it do not fit before the
+    /// journal's end: used is the offset behind its closed gate, need is the payload and 5 bytes,
+    /// the limit is the end.
+    pub fn new(alloc: Global, journal: &Journal, payload: &[u8]) -> Result<Record, StoreFault>
+        requires in_range { InRange journal.now }
+        requires size { length payload.now < 2 ^ 32 }
+        ensures answer { AddEnds (journal.now.next + 1) (length payload.now + 5) journal.now.end (Unit {0}) ⊥ result }
+        ensures payload { IfOk result (λ made. made ≡ payload.now) }
+    {
+        let used = journal.next + 1;
+        let need = payload.len() as u64 + 5;
+        if journal.end < used + need {
+            return Err(StoreFault::NoSpace {
+                used,
+                need,
+                limit: journal.end,
+            });
+        }
+        let body = record_body(alloc, payload)?;
+        Ok(Record { body })
+    }
+
+    /// What is written behind its gate.
+    pub(crate) fn bytes(&self) -> &[u8]
+        ensures { result.now ≡ behind_gate self.now }
+    {
+        self.body.as_slice()
+    }
+}
+
+// The length of the payload behind an open gate, or `None` behind a closed one. Below the limit the
+// payload and the gate behind it are there.
 fn read_head<D: Disk>(disk: &mut D, gate: u64, limit: u64) -> Result<Option<u64>, StoreFault>
     requires small { limit ≤ 2 ^ 41 }
     requires there { Now (D.moments disk.old) (λ d. limit ≤ length d.content) }
@@ -53,8 +110,9 @@ fn read_head<D: Disk>(disk: &mut D, gate: u64, limit: u64) -> Result<Option<u64>
     Ok(Some(size))
 }
 
-/// The payload of the record at a gate, or `None` where the gate is closed. Only bytes below the limit count, all of which are there.
-/// A length is tested against the limit before there is memory for it.
+/// The payload of the record at a gate, or `None` where the gate is closed. Only bytes below the
+/// limit count, all of which are there. A length is tested against the limit before there is memory
+/// for it.
 pub fn read_record<D: Disk>(
     alloc: Global,
     disk: &mut D,

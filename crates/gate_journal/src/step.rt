@@ -13,7 +13,8 @@ pub const OPEN: u8 = 1;
 /// The value of the closed gates that are written.
 pub const CLOSED: u8 = 0;
 
-/// Writes bytes at an offset and settles them: before that a stop leaves what one write of that range might leave.
+/// Writes bytes at an offset and settles them: before that a stop leaves what one write of that
+/// range might leave.
 pub fn put<D: Disk>(disk: &mut D, off: u64, bytes: &[u8]) -> Result<(), DiskFault>
     requires { off + length bytes.now ≤ 2 ^ 41 }
     ensures any_moment { Leaves (D.moments disk.old) (D.moments disk.new) (λ d image. StopsIn off (length bytes.now) d image) }
@@ -25,8 +26,8 @@ pub fn put<D: Disk>(disk: &mut D, off: u64, bytes: &[u8]) -> Result<(), DiskFaul
     Ok(())
 }
 
-/// Adds a record behind a gate. Its body, which is all that stands behind the gate, is settled before the gate is opened: a gate that
-/// a stop leaves open has a whole record behind it.
+/// Adds a record behind a gate. Its body, which is all that stands behind the gate, is settled
+/// before the gate is opened: a gate that a stop leaves open has a whole record behind it.
 pub fn add_record<D: Disk>(disk: &mut D, gate: u64, body: &[u8]) -> Result<(), DiskFault>
     requires { gate + 1 + length body.now ≤ 2 ^ 41 }
     ensures any_moment { Leaves (D.moments disk.old) (D.moments disk.new) (λ d image. AddStops gate body.now d image) }
@@ -38,8 +39,8 @@ pub fn add_record<D: Disk>(disk: &mut D, gate: u64, body: &[u8]) -> Result<(), D
     Ok(())
 }
 
-/// Closes the gate at an offset where it is open or not there. A gate that reads as closed is not written again: a stop in that write
-/// could leave it open over bytes that are not whole.
+/// Closes the gate at an offset where it is open or not there. A gate that reads as closed is not
+/// written again: a stop in that write could leave it open over bytes that are not whole.
 pub fn close_gate<D: Disk>(disk: &mut D, at: u64) -> Result<(), DiskFault>
     requires { at < 2 ^ 41 }
     ensures any_moment { Leaves (D.moments disk.old) (D.moments disk.new) (GateStops at) }

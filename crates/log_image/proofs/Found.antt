@@ -57,7 +57,7 @@ moment_stands role pair d journal payloads map rebuilt spelled stands headed = r
 pub read_held : (moments : Option (List DiskMoment)) (journal : Journal) (payloads : List (List ℕ)) (map : PoolView) → Found 0 (2 ^ 40) moments journal payloads
     → Now moments (λ d. RangeStands 0 (journal.next + 1) d → StandsAs journal payloads d) → Rebuilt payloads map → Held moments journal map
 read_held moments journal payloads map found stands rebuilt = record {
-  journal_is = record { start = found.start; end_is = found.end_is; within = found.within };
+  journal_is = record { start = found.start; end_most = omega (arith, found.end_is); within = omega (arith, found.end_is, found.within) };
   rested = ap (λ (m : PoolView). m.ready) rebuilt.replayed.made;
   holds = now_weaker moments (λ d. Spells 0 (2 ^ 40) d.content payloads journal.next) _
       (λ d spelled role pair headed. image_holds role pair d.content payloads journal.next map rebuilt spelled headed) found.spelled;

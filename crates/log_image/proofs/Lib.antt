@@ -6,3 +6,4 @@ pub mod Blanks
 pub mod Rebuilt
 pub mod Found
 pub mod Stands
+pub mod Lawful

@@ -12,7 +12,8 @@ use Rattle.gate_journal.proofs.Laws.{one_meaning}
 use Rattle.gate_journal.proofs.Records.{index_take}
 use Rattle.rec_codec.specs.Spelling.{SpellsTxn}
 use Rattle.rec_codec.proofs.TxnLaws.{txns_apart}
-use Rattle.log_image.specs.Images.{AreTxns, HoldsLog, Log, head, made_by}
+use Rattle.store_face.specs.Views.{Durable}
+use Rattle.log_image.specs.Images.{AreTxns, HoldsLog, head, made_by}
 use Rattle.log_image.specs.Fronts.{IsBad, IsHeaded, HasNoTxn, head_fault}
 use Rattle.log_image.proofs.Places.{cut_part, inner_part}
 use Rattle.log_image.proofs.Heads.{Passes, passes_head, first_size}
@@ -32,7 +33,7 @@ size_bytes (a ∷ b ∷ c ∷ d ∷ xs) long is =
     rw (none_a, none_b, none_c, all_d) refl
 
 -- A log has the head of its pool and pair, and no empty disk holds one.
-pub a_log_is_headed : (role : Pool) (pair : ℕ) (image : List ℕ) (log : Log) → HoldsLog role pair image log → pair < 2 ^ 64 → IsHeaded role pair image
+pub a_log_is_headed : (role : Pool) (pair : ℕ) (image : List ℕ) (log : Durable) → HoldsLog role pair image log → pair < 2 ^ 64 → IsHeaded role pair image
 a_log_is_headed role pair image log holds fits =
     let first = holds.spelled.records.0 in
     let long : 23 ≤ length image = omega (arith, first.followed, length-take (2 ^ 40) image) in
@@ -74,7 +75,7 @@ same_spelled : (x y : List ℕ) (ps qs : List (List ℕ)) (m n : ℕ) → ◌≡
 same_spelled x y ps qs m n e = (cc, cc)
 
 -- The bytes hold one log of a pool and a pair.
-pub one_log : (role : Pool) (pair : ℕ) (image : List ℕ) (l m : Log) → HoldsLog role pair image l → HoldsLog role pair image m → l ≡ m
+pub one_log : (role : Pool) (pair : ℕ) (image : List ℕ) (l m : Durable) → HoldsLog role pair image l → HoldsLog role pair image m → l ≡ m
 one_log role pair image l m one two =
     let same = same_spelled (head role pair) (head role pair) one.payloads two.payloads one.next two.next
     (one_meaning 0 (2 ^ 40) image (Spelled (head role pair ∷ one.payloads) one.next) (Spelled (head role pair ∷ two.payloads) two.next) one.spelled two.spelled) in
@@ -93,7 +94,7 @@ one_txn [] payload behind (t ∷ ts) each = (t, each.0)
 one_txn (p ∷ ps) payload behind [] each = absurd each
 one_txn (p ∷ ps) payload behind (t ∷ ts) each = one_txn ps payload behind ts each.1
 
-has_txns : (role : Pool) (pair : ℕ) (image : List ℕ) (log : Log) (at : ℕ) → HoldsLog role pair image log → HasNoTxn image at → ⊥
+has_txns : (role : Pool) (pair : ℕ) (image : List ℕ) (log : Durable) (at : ℕ) → HoldsLog role pair image log → HasNoTxn image at → ⊥
 has_txns role pair image log at holds lacks =
     let same = same_spelled (head role pair) lacks.first holds.payloads (lacks.before ++ lacks.payload ∷ lacks.behind) holds.next lacks.next
     (one_meaning 0 (2 ^ 40) image (Spelled (head role pair ∷ holds.payloads) holds.next) (Spelled (lacks.first ∷ (lacks.before ++ lacks.payload ∷ lacks.behind)) lacks.next) holds.spelled lacks.spelled) in
@@ -101,7 +102,7 @@ has_txns role pair image log at holds lacks =
     lacks.none found.0 found.1
 
 -- A log of a pool and a pair is not refused as none of these.
-pub a_log_is_not_refused : (role : Pool) (pair : ℕ) (image : List ℕ) (log : Log) (at : ℕ) → HoldsLog role pair image log → pair < 2 ^ 64 → IsBad role pair image at → ⊥
+pub a_log_is_not_refused : (role : Pool) (pair : ℕ) (image : List ℕ) (log : Durable) (at : ℕ) → HoldsLog role pair image log → pair < 2 ^ 64 → IsBad role pair image at → ⊥
 a_log_is_not_refused role pair image log at holds fits (inl misheaded) = apart (head_fault role image) (a_log_is_headed role pair image log holds fits).tested misheaded.failed
   where
     apart : (o : Option ℕ) → o ≡ None → o ≡ Some at → ⊥

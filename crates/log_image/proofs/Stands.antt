@@ -5,6 +5,7 @@ use Rattle.std.proofs.Common.{◌∙◌, sym, subst, ap, arith, inl, inr}
 use Rattle.std.proofs.lemmas.List.{length-take}
 use Rattle.obj_model.specs.declared.change.Change.{Change}
 use Rattle.obj_model.specs.declared.change.Pool.{Pool}
+use Rattle.store_face.specs.Limits.{store_limit}
 use Rattle.store_face.specs.Tables.{Table, changed_by}
 use Rattle.tier_outside.specs.Disk.{DiskMoment, IsImage, settled, RangeStands, IsSettled}
 use Rattle.tier_outside.specs.DiskMoments.{last, Now, Then, Leaves}
@@ -12,21 +13,24 @@ use Rattle.tier_outside.proofs.DiskMoments.{since_weaker}
 use Rattle.gate_journal.specs.declared.journal.Journal.{Journal}
 use Rattle.gate_journal.specs.Journals.{Spells}
 use Rattle.gate_journal.specs.Stands.{StandsAs, HoldsWithOrWithout, longer}
-use Rattle.gate_journal.proofs.Records.{spells_frame}
+use Rattle.gate_journal.proofs.Records.{SameBytes, spells_frame}
 use Rattle.gate_journal.proofs.Walks.{stands_same}
 use Rattle.pool_map.specs.Pools.{PoolView}
 use Rattle.rec_codec.specs.Spelling.{SpellsTxn}
 use Rattle.log_image.specs.Calls.{Held}
 use Rattle.log_image.specs.Fronts.{IsHeaded}
 use Rattle.log_image.specs.Images.{HoldsLog, head, made_by}
-use Rattle.log_image.specs.Standing.{IsLogJournal, LogStands}
+use Rattle.log_image.specs.Standing.{IsLogJournal, LogStands, ends_at}
 use Rattle.log_image.proofs.Rebuilt.{txns_push, made_push}
 
--- a log's journal is that of the whole disk
+-- what is spelled below the end of a log's journal is spelled within the most bytes of a log
 log_spelled : (journal : Journal) (image : List ℕ) (payloads : List (List ℕ)) (next : ℕ) → IsLogJournal journal → Spells journal.start journal.end image payloads next
-    → Spells 0 (2 ^ 40) image payloads next
+    → Spells 0 store_limit image payloads next
 log_spelled journal image payloads next is spelled =
-    subst (λ (n : ℕ). Spells 0 n image payloads next) is.end_is (subst (λ (n : ℕ). Spells n journal.end image payloads next) is.start spelled)
+    let same : SameBytes journal.start (next + 1) image image = record { same = λ i above under. refl } in
+    subst (λ (n : ℕ). Spells n store_limit image payloads next) is.start
+    (spells_frame journal.start journal.end store_limit image image payloads next spelled same
+    (omega (arith, spelled.gate.there, length-take journal.end image)) (omega (arith, spelled.gate.there, length-take journal.end image, is.end_most)))
 
 -- each image of a moment at which a log stands holds it
 pub stands_holds : (role : Pool) (pair : ℕ) (journal : Journal) (table : Table) (d : DiskMoment) (image : List ℕ) → LogStands role pair journal table d → IsLogJournal journal → IsImage d image
@@ -34,13 +38,13 @@ pub stands_holds : (role : Pool) (pair : ℕ) (journal : Journal) (table : Table
 stands_holds role pair journal table d image log journal_is is =
     let payloads = head role pair ∷ log.payloads in
     let same = stands_same journal.start (journal.next + 1) d image log.stands.settled is in
-    let spelled = spells_frame journal.start (journal.next + 1) journal.end d.stable image payloads journal.next log.stands.spelled same
-    (omega (arith, log.stands.settled.within, is.no_shorter)) (omega (arith, journal_is.end_is, journal_is.within)) in
+    let spelled = spells_frame journal.start (journal.next + 1) store_limit d.stable image payloads journal.next log.stands.spelled same
+    (omega (arith, log.stands.settled.within, is.no_shorter)) journal_is.within in
     record {
       payloads = log.payloads;
       txns = log.txns;
       next = journal.next;
-      spelled = log_spelled journal image payloads journal.next journal_is spelled;
+      spelled = subst (λ (n : ℕ). Spells n store_limit image payloads journal.next) journal_is.start spelled;
       each = log.each;
       made = log.made;
       used_is = refl;
@@ -90,7 +94,17 @@ longer_stands role pair journal table d e payload txn log is stands = record {
 
 -- what was appended fits below the end
 pub longer_journal : (journal : Journal) (payload : List ℕ) → IsLogJournal journal → journal.next + 1 + (length payload + 5) ≤ journal.end → IsLogJournal (longer journal payload)
-longer_journal journal payload is fits = record { start = is.start; end_is = is.end_is; within = omega (arith, fits, is.end_is) }
+longer_journal journal payload is fits = record { start = is.start; end_most = is.end_most; within = omega (arith, fits, is.end_most) }
+
+-- a log stands whatever the end of its journal is
+pub stands_ended : (role : Pool) (pair end : ℕ) (journal : Journal) (table : Table) (d : DiskMoment) → LogStands role pair journal table d → LogStands role pair (ends_at end journal) table d
+stands_ended role pair end journal table d log = record {
+  payloads = log.payloads;
+  txns = log.txns;
+  stands = record { settled = log.stands.settled; spelled = log.stands.spelled };
+  each = log.each;
+  made = log.made;
+}
 
 -- each image of each moment of a call of `append` holds the log with or without the changes
 pub append_holds : (role : Pool) (pair : ℕ) (journal : Journal) (table : Table) (payload : List ℕ) (txn : List Change) (old new : Option (List DiskMoment)) → Now old (LogStands role pair journal table)

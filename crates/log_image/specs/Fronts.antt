@@ -4,13 +4,14 @@ use Rattle.byteorder.specs.Endian.{big_bytes, big_number}
 use Rattle.obj_model.specs.declared.change.Change.{Change}
 use Rattle.obj_model.specs.declared.change.Pool.{Pool}
 use Rattle.gate_journal.specs.Journals.{AreRecords, Spells, Means, Broken}
+use Rattle.store_face.specs.Limits.{store_limit}
 use Rattle.rec_codec.specs.Spelling.{SpellsTxn}
 use Rattle.log_image.specs.Images.{IsEmpty, IsHalfOpen, AreTxns, role_byte}
 use Rattle.log_image.specs.declared.front.Front.{Front}
 use Rattle.log_image.specs.declared.front.Front.TheVariants.{Blank, HalfOpen, Bad, Headed}
 
--- The place of the first test that the head of a disk fails: its first gate, the length of its first record, its magic, its pool; a
--- record that ends before its pair does is broken at its gate.
+-- The place of the first test that the head of a disk fails: its first gate, the length of its
+-- first record, its magic, its pool; a record that ends before its pair does is broken at its gate.
 abbrev pub head_fault : Pool → List ℕ → Option ℕ
 head_fault role image =
     if not (slice_index image 0 == 1) then Some 0
@@ -36,7 +37,8 @@ pub record IsMisheaded (role : Pool) (image : List ℕ) (at : ℕ) : Type 0 wher
   pub used : ¬ IsEmpty role image
   pub failed : head_fault role image ≡ Some at
 
--- a disk with at most one byte, or one that begins with a zero; and whether there is a first byte that is zero
+-- a disk with at most one byte, or one that begins with a zero; and whether there is a first byte
+-- that is zero
 pub record IsUnwritten (image : List ℕ) (zeroed : Bool) : Type 0 where
   pub blank : (length image ≤ 1) ⊎ (slice_index image 0 ≡ 0)
   pub zero_is : IsTrue zeroed ↔ ((0 < length image) × (slice_index image 0 ≡ 0))
@@ -57,15 +59,16 @@ pub record HasNoTxn (image : List ℕ) (at : ℕ) : Type 0 where
   pub txns : List (List Change)
   pub gate : ℕ
   pub next : ℕ
-  pub spelled : Spells 0 (2 ^ 40) image (first ∷ (before ++ payload ∷ behind)) next
+  pub spelled : Spells 0 store_limit image (first ∷ (before ++ payload ∷ behind)) next
   pub each : AreTxns before txns
-  pub place : AreRecords (take (2 ^ 40) image) 0 (first ∷ before) gate
+  pub place : AreRecords (take store_limit image) 0 (first ∷ before) gate
   pub at_is : at ≡ gate + 5
   pub none : (txn : List Change) → ¬ SpellsTxn payload txn
 
--- the bytes of a disk whose head passes are no log: they are no journal, or else a record behind the first is no transaction
+-- the bytes of a disk whose head passes are no log: they are no journal, or else a record behind
+-- the first is no transaction
 abbrev pub IsNoLog : List ℕ → ℕ → Type 0
-IsNoLog image at = Means 0 (2 ^ 40) image (Broken at) ⊎ HasNoTxn image at
+IsNoLog image at = Means 0 store_limit image (Broken at) ⊎ HasNoTxn image at
 
 -- a disk is refused as no log of this pool and pair, at this place
 abbrev pub IsBad : Pool → ℕ → List ℕ → ℕ → Type 0

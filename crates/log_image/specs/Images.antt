@@ -5,7 +5,10 @@ use Rattle.byteorder.specs.Endian.{big_bytes}
 use Rattle.obj_model.specs.declared.change.Change.{Change}
 use Rattle.obj_model.specs.declared.change.Pool.{Pool}
 use Rattle.obj_model.specs.declared.change.Pool.TheVariants.{Cache, Base}
+use Rattle.store_face.specs.Limits.{store_limit}
 use Rattle.store_face.specs.Tables.{Table, changed_by}
+use Rattle.store_face.specs.Views.{Durable}
+use Rattle.store_face.specs.Views.{Durable}
 use Rattle.rec_codec.specs.Spelling.{SpellsTxn}
 use Rattle.gate_journal.specs.Journals.{Spells, behind_gate}
 
@@ -14,22 +17,26 @@ abbrev pub role_byte : Pool → ℕ
 role_byte Cache = 1
 role_byte Base = 2
 
--- the payload of the first record: what kind of disk it is, of which pool, and of which pair of pools
+-- the payload of the first record: what kind of disk it is, of which pool, and of which pair of
+-- pools
 abbrev pub head : Pool → ℕ → List ℕ
 head role pair = codes "RTLOG001" ++ role_byte role ∷ big_bytes 8 pair
 
--- what stands behind the first gate of a disk without transactions: the rest of the first record, and a closed gate
+-- what stands behind the first gate of a disk without transactions: the rest of the first record,
+-- and a closed gate
 abbrev pub rest : Pool → ℕ → List ℕ
 rest role pair = behind_gate (head role pair)
 
--- All that formatting writes behind the first byte stands there, and the first byte is neither an open gate nor a zero.
+-- All that formatting writes behind the first byte stands there, and the first byte is neither an
+-- open gate nor a zero.
 pub record IsHalfOpen (role : Pool) (pair : ℕ) (image : List ℕ) : Type 0 where
   pub fits : pair < 2 ^ 64
   pub not_zero : slice_index image 0 ≢ 0
   pub not_open : slice_index image 0 ≢ 1
   pub behind : take 22 (drop 1 image) ≡ rest role pair
 
--- a disk that opening formats for this pair: it has at most one byte, or begins with a zero, or formatting stopped at its last write
+-- a disk that opening formats for this pair: it has at most one byte, or begins with a zero, or
+-- formatting stopped at its last write
 abbrev pub IsBlank : Pool → ℕ → List ℕ → Type 0
 IsBlank role pair image = (length image ≤ 1) ⊎ (slice_index image 0 ≡ 0) ⊎ IsHalfOpen role pair image
 
@@ -49,22 +56,18 @@ abbrev pub made_by : Table → List (List Change) → Table
 made_by t [] = t
 made_by t (txn ∷ txns) = made_by (changed_by t txn) txns
 
--- a map, and the offset behind the last gate of the log that holds it
-pub record Log : Type 0 where
-  pub table : Table
-  pub used : ℕ
-
--- a log without transactions
-abbrev pub no_txns : Log
+-- what a log without transactions holds: the empty map, and the offset behind its last gate
+abbrev pub no_txns : Durable
 no_txns = record { table = fin.empty; used = 23 }
 
--- The bytes hold a log: the first record with an open gate, records of transactions with open gates, a gate that is not open, all
--- within the first 2^40 bytes, and then anything. The map is what the transactions make of the empty one.
-pub record HoldsLog (role : Pool) (pair : ℕ) (image : List ℕ) (log : Log) : Type 0 where
+-- The bytes hold a log: the first record with an open gate, records of transactions with open
+-- gates, a gate that is not open, all within the most bytes of a log, and then anything. The map is
+-- what the transactions make of the empty one, and used is the offset behind the last gate.
+pub record HoldsLog (role : Pool) (pair : ℕ) (image : List ℕ) (log : Durable) : Type 0 where
   pub payloads : List (List ℕ)
   pub txns : List (List Change)
   pub next : ℕ
-  pub spelled : Spells 0 (2 ^ 40) image (head role pair ∷ payloads) next
+  pub spelled : Spells 0 store_limit image (head role pair ∷ payloads) next
   pub each : AreTxns payloads txns
   pub made : log.table ≡ made_by fin.empty txns
   pub used_is : log.used ≡ next + 1

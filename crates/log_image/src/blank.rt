@@ -1,4 +1,5 @@
-//! Formatting an empty disk, so that a stop at any moment leaves it empty, or with a log without transactions.
+//! Formatting an empty disk, so that a stop at any moment leaves it empty, or with a log without
+//! transactions.
 ghost use Rattle.tier_outside.specs.Disk.{IsSettled};
 ghost use Rattle.std.specs.Prelude.{◌≡◌, ◌≤◌, length, slice_index, IfOk, OnOk};
 ghost use Rattle.std.specs.FinMap as fin;
@@ -9,7 +10,7 @@ ghost use Rattle.log_image.specs.Fronts.{IsUnwritten};
 ghost use Rattle.log_image.specs.Standing.{BlankOrNew, LogStands, first_journal};
 ghost use Rattle.log_image.specs.Steps.{IsZeroed, RestStands};
 
-use crate::head::{CLOSED, OPEN, role_byte};
+use crate::head::{CLOSED, LOG_LIMIT, OPEN, role_byte};
 use byteorder::{BigEndian, ByteOrder};
 use gate_journal::{Journal, put};
 use obj_model::Pool;
@@ -17,9 +18,10 @@ use tier_outside::{Disk, DiskFault};
 
 /// Formats a settled disk that has at most one byte or begins with a zero.
 ///
-/// A first byte that is there and zero is not written again, since a stop in that write could leave an open gate over bytes that are not
-/// whole. Then all behind the first gate is written and settled, and then the gate.
-pub fn format<D: Disk>(
+/// A first byte that is there and zero is not written again, since a stop in that write could leave
+/// an open gate over bytes that are not whole. Then all behind the first gate is written and
+/// settled, and then the gate.
+pub fn format_log<D: Disk>(
     disk: &mut D,
     role: Pool,
     pair: u64,
@@ -37,8 +39,9 @@ pub fn format<D: Disk>(
     open_first(disk, role, pair)
 }
 
-/// Ends the formatting of a settled disk at which it stopped at its last write: the first gate is written and settled.
-pub fn finish<D: Disk>(disk: &mut D, role: Pool, pair: u64) -> Result<Journal, DiskFault>
+/// Ends the formatting of a settled disk at which it stopped at its last write: the first gate is
+/// written and settled.
+pub fn finish_format<D: Disk>(disk: &mut D, role: Pool, pair: u64) -> Result<Journal, DiskFault>
     requires settled { Now (D.moments disk.old) IsSettled }
     requires half { Now (D.moments disk.old) (λ d. IsHalfOpen role pair d.content) }
     ensures any_moment { Leaves (D.moments disk.old) (D.moments disk.new) (λ d image. BlankOrNew role pair image) }
@@ -49,7 +52,8 @@ pub fn finish<D: Disk>(disk: &mut D, role: Pool, pair: u64) -> Result<Journal, D
     open_first(disk, role, pair)
 }
 
-// Writes and settles a zero as the first byte, if there is none: of what a stop leaves until then nothing is longer than a byte.
+// Writes and settles a zero as the first byte, if there is none: of what a stop leaves until then
+// nothing is longer than a byte.
 fn close_first<D: Disk>(disk: &mut D, zeroed: bool) -> Result<(), DiskFault>
     requires settled { Now (D.moments disk.old) IsSettled }
     requires blank { Now (D.moments disk.old) (λ d. IsUnwritten d.content zeroed) }
@@ -86,7 +90,7 @@ fn open_first<D: Disk>(disk: &mut D, role: Pool, pair: u64) -> Result<Journal, D
     Ok(Journal {
         start: 0,
         next: 22,
-        end: 1 << 40,
+        end: LOG_LIMIT,
     })
 }
 

@@ -29,9 +29,10 @@ pub enum Front {
 
 /// Reads what the first bytes of a disk say. It writes nothing.
 ///
-/// The tests come in this order, each with the offset at which it is told: the first gate is open (0), the length is that of a head (1),
-/// the magic is `RTLOG001` (5), the pool is the one that is asked for (13). A head that ends before its pair does is broken at its gate, 0.
-pub fn look<D: Disk>(disk: &mut D, role: Pool) -> Result<Front, DiskFault>
+/// The tests come in this order, each with the offset at which it is told: the first gate is open
+/// (0), the length is that of a head (1), the magic is `RTLOG001` (5), the pool is the one that is
+/// asked for (13). A head that ends before its pair does is broken at its gate, 0.
+pub fn look_at_head<D: Disk>(disk: &mut D, role: Pool) -> Result<Front, DiskFault>
     ensures front { IfOk result (λ front. Now (D.moments disk.old) (λ d. FrontIs role d.content front)) }
     ensures same { D.moments disk.new ≡ D.moments disk.old }
     ensures image { Now (D.moments disk.new) (λ d. IsImage d d.content) }
@@ -42,7 +43,8 @@ pub fn look<D: Disk>(disk: &mut D, role: Pool) -> Result<Front, DiskFault>
     Ok(front_of(&bytes[..count], role))
 }
 
-// What the first bytes of a disk say, of which all are here, or so many as make a disk without transactions.
+// What the first bytes of a disk say, of which all are here, or so many as make a disk without
+// transactions.
 fn front_of(bytes: &[u8], role: Pool) -> Front
     ensures { FrontIs role bytes.now result }
 {

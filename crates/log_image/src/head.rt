@@ -1,8 +1,11 @@
-//! The parts of the first record of a log.
+//! The most bytes of a log, and the parts of its first record.
 ghost use Rattle.std.specs.Prelude.{◌≡◌};
 ghost use Rattle.log_image.specs.Images.{role_byte};
 
 use obj_model::Pool;
+
+/// The most bytes of a log.
+pub(crate) const LOG_LIMIT: u64 = 1 << 40;
 
 /// The value of an open gate.
 pub(crate) const OPEN: u8 = 1;

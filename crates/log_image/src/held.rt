@@ -5,6 +5,7 @@ ghost use Rattle.tier_outside.specs.DiskMoments.{Now};
 ghost use Rattle.log_image.specs.Calls.{ReadEnds};
 ghost use Rattle.log_image.specs.Rebuilding.{RebuildEnds, ReplayEnds, told};
 
+use crate::head::LOG_LIMIT;
 use gate_journal::{Journal, walk};
 use obj_model::{Bytes, Items};
 use pool_map::PoolMap;
@@ -12,9 +13,6 @@ use rec_codec::read_txn;
 use std::alloc::Global;
 use store_face::StoreFault;
 use tier_outside::Disk;
-
-// The end of a log's journal.
-const LOG_END: u64 = 1 << 40;
 
 // The bytes of a record in front of its payload: its gate and its length.
 const RECORD_HEAD: u64 = 5;
@@ -33,8 +31,8 @@ fn replay(alloc: Global, map: &mut PoolMap, payload: &[u8], at: u64) -> Result<(
     }
 }
 
-// The gate behind the record of a payload at a gate. An offset that 64 bits do not hold is told as their last number: only a disk that
-// gives other bytes at each reading has one.
+// The gate behind the record of a payload at a gate. An offset that 64 bits do not hold is told as
+// their last number: only a disk that gives other bytes at each reading has one.
 fn behind(gate: u64, payload: &[u8]) -> u64
     ensures { result ≡ told (gate + 5 + length payload.now) }
 {
@@ -60,17 +58,19 @@ fn rebuild(alloc: Global, payloads: Items<Bytes>) -> Result<PoolMap, StoreFault>
     Ok(map)
 }
 
-/// Reads a log whose head was looked at, in one pass: where its journal stands, and its map. It writes nothing.
+/// Reads a log whose head was looked at, in one pass: where its journal stands, and its map. It
+/// writes nothing.
 ///
-/// `BadImage` tells a gate that breaks the journal; or else, of the records behind the head, the payload of the first that is no
-/// transaction. Over a disk that tells nothing and whose first gate is not open after all, it tells that gate, 0.
-pub fn read<D: Disk>(alloc: Global, disk: &mut D) -> Result<(Journal, PoolMap), StoreFault>
+/// `BadImage` tells a gate that breaks the journal; or else, of the records behind the head, the
+/// payload of the first that is no transaction. Over a disk that tells nothing and whose first gate
+/// is not open after all, it tells that gate, 0.
+pub fn read_log<D: Disk>(alloc: Global, disk: &mut D) -> Result<(Journal, PoolMap), StoreFault>
     requires opened { Now (D.moments disk.old) (λ d. slice_index d.content 0 ≡ 1) }
     ensures read { ReadEnds (D.moments disk.old) (Rose (D.faults disk.old) (D.faults disk.new)) result }
     ensures same { D.moments disk.new ≡ D.moments disk.old }
     ensures later { D.faults disk.old ≤ D.faults disk.new }
 {
-    let (journal, payloads) = walk(alloc, disk, 0, LOG_END)?;
+    let (journal, payloads) = walk(alloc, disk, 0, LOG_LIMIT)?;
     let map = rebuild(alloc, payloads)?;
     Ok((journal, map))
 }

@@ -12,11 +12,12 @@ use Rattle.store_face.specs.declared.fault.StoreFault.{StoreFault}
 use Rattle.store_face.specs.declared.fault.StoreFault.TheVariants as store
 use Rattle.log_image.specs.Calls.{Held, ReadEnds}
 use Rattle.log_image.specs.Fronts.{FrontIs, IsBad, IsHeaded, IsMisheaded, IsNoLog, IsOf, IsUnwritten}
-use Rattle.log_image.specs.Images.{HoldsLog, IsBlank, IsHalfOpen, Log}
+use Rattle.store_face.specs.Views.{Durable}
+use Rattle.log_image.specs.Images.{HoldsLog, IsBlank, IsHalfOpen}
 use Rattle.log_image.specs.Standing.{BlankOrNew, LogStands}
 use Rattle.log_image.specs.declared.front.Front.TheVariants.{Blank, HalfOpen, Bad, Headed}
 use Rattle.log_image.proofs.Heads.{head_passes}
-use Rattle.log_image.proofs.LogLaws.{a_log_is_headed, a_log_is_not_refused}
+use Rattle.log_image.proofs.LogLaws.{a_log_is_headed, a_log_is_not_refused, one_log}
 use Rattle.log_image.proofs.Stands.{held_stands}
 use Rattle.log_store.specs.Opens.{NotReread, OpensAs, OpeningStops}
 
@@ -111,7 +112,7 @@ of_other role found a b left back front =
 -- ---- what holds no log of the pool and pair
 
 abbrev pub HoldsNone : Pool → ℕ → List ℕ → Type 0
-HoldsNone role pair image = (log : Log) → ¬ HoldsLog role pair image log
+HoldsNone role pair image = (log : Durable) → ¬ HoldsLog role pair image log
 
 pub none_blank : (role : Pool) (pair : ℕ) (a b : Option (List DiskMoment)) → pair < 2 ^ 64 → Leaves a b IsImage → Then a b Restarts → Now b (λ d. IsBlank role pair d.content)
     → SomeImage a (HoldsNone role pair)
@@ -167,3 +168,10 @@ reread_refused role pair (Err (store.BadImage at)) failed failed2 a b fits later
 reread_refused role pair (Err store.NoMemory) failed failed2 a b fits later left back headed ends = tt
 reread_refused role pair (Err (store.NoSpace used need limit)) failed failed2 a b fits later left back headed ends = ends
 reread_refused role pair (Err (store.Worn limit)) failed failed2 a b fits later left back headed ends = ends
+
+-- ---- a log that is opened
+
+-- what a log holds is what it is opened with
+pub goes_on : (role : Pool) (pair : ℕ) (image : List ℕ) (log opened : Durable) → pair < 2 ^ 64 → HoldsLog role pair image log → OpensAs role pair opened image → opened ≡ log
+goes_on role pair image log opened fits holds (inl new) = absurd ((a_log_is_headed role pair image log holds fits).used (pair, new.0))
+goes_on role pair image log opened fits holds (inr also) = one_log role pair image opened log also holds

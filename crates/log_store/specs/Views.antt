@@ -1,17 +1,18 @@
 -- A store over a log as its callers see it.
-use Rattle.std.specs.Prelude.{◌⊎◌, ℕ, Bool, List, Option, Some, None, refl}
-use Rattle.std.specs.FinMap as fin
+use Rattle.std.specs.Prelude.{◌⊎◌, ℕ, Bool, List, Option, refl}
 use Rattle.std.specs.Coded.{Coded, code_by, coded×, coded_ℕ, coded_list, coded_option, coded_bool}
 use Rattle.obj_model.specs.declared.change.Pool.{Pool}
 use Rattle.obj_model.specs.contracts.change.Pool as pool
 use Rattle.tier_outside.specs.Disk.{DiskMoment, EachImage}
 use Rattle.tier_outside.specs.DiskMoments.{Now, coded_moment}
-use Rattle.store_face.specs.Tables.{Table}
-use Rattle.store_face.specs.Views.{Sides, StoreView}
-use Rattle.log_image.specs.Images.{HoldsMap}
+use Rattle.store_face.specs.Codes.{coded_crash}
+use Rattle.store_face.specs.Rooms.{LogRoom}
+use Rattle.store_face.specs.Views.{CrashMaps, StoreView}
+use Rattle.log_image.specs.Images.{HoldsLog}
 
--- A store over a log: the moments of its disk and how often that failed; whether it is live; what pool and pair it is of; the room for
--- its log and the offset behind the log's last gate, in bytes; and, moment by moment since it was opened, the maps that a stop may leave.
+-- A store over a log: the moments of its disk and how often that failed; whether it is live; what
+-- pool and pair it is of; the room for its log and the offset behind the log's last gate, in bytes;
+-- and, moment by moment since it was opened, what a crash may leave.
 pub record LogView : Type 0 where
   pub disk : Option (List DiskMoment)
   pub faults : ℕ
@@ -20,32 +21,41 @@ pub record LogView : Type 0 where
   pub pair : ℕ
   pub room : ℕ
   pub used : ℕ
-  pub moments : Option (List Sides)
+  pub moments : Option (List CrashMaps)
 
--- what every store tells of itself
+-- it as every store is seen
 abbrev pub store_of : LogView → StoreView
-store_of v = record { moments = v.moments; live = v.live; faults = v.faults }
+store_of v = record {
+  moments = v.moments;
+  live = v.live;
+  faults = v.faults;
+  room = LogRoom v.room;
+  used = v.used;
+}
 
--- an image holds the one map or the other
-abbrev pub HoldsSide : Pool → ℕ → Sides → List ℕ → Type 0
-HoldsSide role pair s image = HoldsMap role pair image s.before ⊎ HoldsMap role pair image s.after
+-- an image is a log that holds one of the two
+abbrev pub HoldsEither : Pool → ℕ → CrashMaps → List ℕ → Type 0
+HoldsEither role pair s image = HoldsLog role pair image s.before ⊎ HoldsLog role pair image s.after
 
--- whatever a stop leaves of the disk holds one of these maps
-abbrev pub HoldsSides : Pool → ℕ → Option (List DiskMoment) → Sides → Type 0
-HoldsSides role pair moments s = Now moments (λ d. EachImage d (HoldsSide role pair s))
+-- whatever a crash leaves of the disk is a log that holds one of the two
+abbrev pub EachHolds : Pool → ℕ → Option (List DiskMoment) → CrashMaps → Type 0
+EachHolds role pair moments s = Now moments (λ d. EachImage d (HoldsEither role pair s))
 
--- how a store is written down as a value of contracts
-abbrev coded_table : Coded Table
-coded_table = fin.code (coded_list coded_ℕ) (coded_list coded_ℕ)
-
-abbrev coded_sides : Coded Sides
-coded_sides = code_by (Table × Table) (coded× coded_table coded_table) (λ s. (s.before, s.after)) (λ c. record { before = c.0; after = c.1 }) (λ _. refl)
-
+-- how it is written down as a value of contracts
 abbrev pub coded_log : Coded LogView
 coded_log =
-    code_by ((Option (List DiskMoment) × (ℕ × Bool)) × ((Pool × (ℕ × (ℕ × ℕ))) × Option (List Sides)))
+    code_by ((Option (List DiskMoment) × (ℕ × Bool)) × ((Pool × (ℕ × (ℕ × ℕ))) × Option (List CrashMaps)))
     (coded× (coded× (coded_option (coded_list coded_moment)) (coded× coded_ℕ coded_bool))
-    (coded× (coded× pool.the_row.coded (coded× coded_ℕ (coded× coded_ℕ coded_ℕ))) (coded_option (coded_list coded_sides))))
+    (coded× (coded× pool.the_row.coded (coded× coded_ℕ (coded× coded_ℕ coded_ℕ))) (coded_option (coded_list coded_crash))))
     (λ v. ((v.disk, (v.faults, v.live)), ((v.role, (v.pair, (v.room, v.used))), v.moments)))
-    (λ c. record { disk = c.0.0; faults = c.0.1.0; live = c.0.1.1; role = c.1.0.0; pair = c.1.0.1.0; room = c.1.0.1.1.0; used = c.1.0.1.1.1; moments = c.1.1 })
+    (λ c. record {
+      disk = c.0.0;
+      faults = c.0.1.0;
+      live = c.0.1.1;
+      role = c.1.0.0;
+      pair = c.1.0.1.0;
+      room = c.1.0.1.1.0;
+      used = c.1.0.1.1.1;
+      moments = c.1.1;
+    })
     (λ _. refl)

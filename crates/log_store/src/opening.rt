@@ -1,4 +1,5 @@
-//! How a disk is opened as a log: it is restarted and looked at, and then it is formatted, read, or refused.
+//! How a disk is opened as a log: it is restarted and looked at, and then it is formatted, read, or
+//! refused.
 ghost use Rattle.std.specs.Prelude.{◌≡◌, ◌+◌, ◌≤◌, [], IfOk, IfErr, OnOk};
 ghost use Rattle.tier_outside.specs.Causes.{HasCause, Rose};
 ghost use Rattle.tier_outside.specs.Disk.{IsImage, Restarts, IsSettled};
@@ -10,7 +11,7 @@ ghost use Rattle.log_store.specs.Opens.{KeepsRefused, NotReread, OpensAs, Openin
 
 use crate::{AttachFault, Found};
 use gate_journal::Journal;
-use log_image::{Front, finish, format, look, read};
+use log_image::{Front, finish_format, format_log, look_at_head, read_log};
 use obj_model::Pool;
 use pool_map::PoolMap;
 use std::alloc::Global;
@@ -29,12 +30,14 @@ fn look_anew<D: Disk>(disk: &mut D, role: Pool) -> Result<Front, DiskFault>
     ensures cause { HasCause (D.faults disk.old) (D.faults disk.new) result }
 {
     disk.restart()?;
-    look(disk, role)
+    look_at_head(disk, role)
 }
 
-/// Restarts a disk and says whether it is empty, or of which pair its log is. It writes nothing, and takes no memory.
+/// Restarts a disk and says whether it is empty, or of which pair its log is. It writes nothing,
+/// and takes no memory.
 ///
-/// `BadImage` tells the first test that its head fails. What stands behind the head is not looked at.
+/// `BadImage` tells the first test that its head fails. What stands behind the head is not looked
+/// at.
 pub fn peek<D: Disk>(disk: &mut D, role: Pool) -> Result<Found, AttachFault>
     ensures found { PeekEnds role (D.moments disk.old) (Rose (D.faults disk.old) (D.faults disk.new)) result }
     ensures stops { Leaves (D.moments disk.old) (D.moments disk.new) IsImage }
@@ -66,7 +69,7 @@ pub(crate) fn open<D: Disk>(
 {
     match look_anew(disk, role)? {
         Front::Blank { zeroed } => {
-            let journal = format(disk, role, pair, zeroed)?;
+            let journal = format_log(disk, role, pair, zeroed)?;
             Ok((journal, PoolMap::new(alloc)))
         }
         Front::HalfOpen { pair: half } => {
@@ -76,14 +79,14 @@ pub(crate) fn open<D: Disk>(
                     want: pair,
                 });
             }
-            let journal = finish(disk, role, pair)?;
+            let journal = finish_format(disk, role, pair)?;
             Ok((journal, PoolMap::new(alloc)))
         }
         Front::Headed { pair: found } => {
             if found != pair {
                 return Err(AttachFault::WrongPair { found, want: pair });
             }
-            match read(alloc, disk) {
+            match read_log(alloc, disk) {
                 Ok(held) => Ok(held),
                 Err(StoreFault::Disk) => Err(AttachFault::Disk),
                 Err(StoreFault::BadImage { at }) => Err(AttachFault::BadImage { at }),
@@ -94,7 +97,8 @@ pub(crate) fn open<D: Disk>(
     }
 }
 
-/// Restarts a disk and reads its log of this pool and pair anew. It formats nothing: what is no such log is refused.
+/// Restarts a disk and reads its log of this pool and pair anew. It formats nothing: what is no
+/// such log is refused.
 pub(crate) fn reread<D: Disk>(
     alloc: Global,
     disk: &mut D,
@@ -114,7 +118,7 @@ pub(crate) fn reread<D: Disk>(
             if other != pair {
                 return Err(StoreFault::BadImage { at: PAIR_PLACE });
             }
-            read(alloc, disk)
+            read_log(alloc, disk)
         }
         Front::Blank { zeroed: _ } => Err(StoreFault::BadImage { at: 0 }),
         Front::HalfOpen { pair: _ } => Err(StoreFault::BadImage { at: 0 }),

@@ -10,7 +10,7 @@ use Rattle.hex.specs.declared.error.FromHexError.{FromHexError}
 use Rattle.hex.proofs.HexLemmas.{IsDigits-lower_digits, decode_of-encode_lower, decode_of-ok, decode_of-even}
 use Rattle.script_lang.specs.Spelling.{bytes_word}
 use Rattle.script_lang.specs.Reading.{bytes_of, is_lower_digit}
-use Rattle.script_lang.proofs.Joined.{IsWord, IsWord-from_test}
+use Rattle.script_lang.proofs.Joined.{IsWord, IsWord-from_test, literal_is_word, no_semicolon}
 
 -- ---- the digits
 
@@ -157,5 +157,12 @@ bytes_of-word (b ∷ bytes) h =
     rw (dash, some, lower, back) refl
 
 pub bytes_is_word : (bytes : List ℕ) → IsBytes bytes → IsWord (bytes_word bytes)
-bytes_is_word [] h = IsWord-from_test (λ b. b == 0x2d) (λ b e. grind (arith, nat_tests)) (codes "-") refl
-bytes_is_word (b ∷ bytes) h = IsWord-from_test is_lower_digit (λ b e. grind (arith, nat_tests)) (encode_lower (b ∷ bytes)) (encode_is_lower (b ∷ bytes) h)
+unfolding encode_with
+bytes_is_word [] h = literal_is_word (codes "-") refl
+bytes_is_word (b ∷ bytes) h =
+    IsWord-from_test is_lower_digit (λ b e. grind (arith, nat_tests)) (encode_lower (b ∷ bytes)) (omega arith)
+    (encode_is_lower (b ∷ bytes) h)
+
+pub bytes_is_field : (bytes : List ℕ) → IsBytes bytes → bytes_eq (bytes_word bytes) (codes ";") ≡ false
+bytes_is_field [] h = refl
+bytes_is_field (b ∷ bytes) h = no_semicolon is_lower_digit refl (encode_lower (b ∷ bytes)) (encode_is_lower (b ∷ bytes) h)

@@ -1,5 +1,5 @@
 -- A word reads as a number exactly where it is the number's decimal digits.
-use Rattle.std.proofs.Common.{◌≡◌, ℕ, ◌+◌, ◌-◌, ◌*◌, ◌^◌, min, take, ◌<◌, ◌≤◌, ◌==◌, ◌&&◌, ◌||◌, ◌⊎◌, inl, inr, nat_le, Bool, true, List, length, get_or, Some, refl, sym, ap, ◌∙◌, arith, rules, decimal}
+use Rattle.std.proofs.Common.{◌≡◌, ℕ, ◌+◌, ◌-◌, ◌*◌, ◌^◌, min, take, ◌<◌, ◌≤◌, ◌==◌, ◌&&◌, ◌||◌, ◌⊎◌, inl, inr, nat_le, Bool, true, List, length, get_or, Some, refl, sym, ap, ◌∙◌, arith, rules, decimal, bytes_eq, codes, false}
 use Rattle.std.specs.List.{list_all}
 use Rattle.std.specs.Char.{is_ascii_digit, digit_value}
 use Rattle.std.specs.Str.Parse.{digits_value}
@@ -9,8 +9,8 @@ use Rattle.std.proofs.lemmas.Fmt.{decimal-digits_value, digits_decimal, digits_v
 use Rattle.std.proofs.lemmas.Bool.{and_parts, cases_eq}
 use Rattle.std.proofs.lemmas.Bool.Decides.{nat_tests}
 use Rattle.script_lang.specs.Reading.{number_of, is_numeral}
-use Rattle.script_lang.proofs.Options.{only_if_some}
-use Rattle.script_lang.proofs.Joined.{IsWord, IsWord-from_test}
+use Rattle.script_lang.proofs.Options.{where_true_some}
+use Rattle.script_lang.proofs.Joined.{IsWord, IsWord-from_test, no_semicolon}
 
 -- texts of digits, and their values
 own : IsNumeralModel (λ ds. list_all is_ascii_digit ds ≡ true) (digits_value 10)
@@ -50,7 +50,7 @@ digits_step word i value below digits is =
 pub number_of-sound : (word : List ℕ) (n : ℕ) → number_of word ≡ Some n → (word ≡ decimal n) × (n ≤ 2 ^ 62)
 unfolding number_of
 number_of-sound word n h =
-    let some = only_if_some (is_numeral word && nat_le (digits_value 10 word) (2 ^ 62)) (digits_value 10 word) n h in
+    let some = where_true_some (is_numeral word && nat_le (digits_value 10 word) (2 ^ 62)) (digits_value 10 word) n h in
     let both = and_parts (is_numeral word) (nat_le (digits_value 10 word) (2 ^ 62)) some.0 in
     let parts = numeral_parts (length word) (get_or word 0 0) (list_all is_ascii_digit word) both.0 in
     let low : digits_value 10 word ≤ 2 ^ 62 = grind (arith, nat_tests) in
@@ -77,4 +77,9 @@ number_of-decimal n h =
     rw (numeral, value, low) refl
 
 pub decimal_is_word : (n : ℕ) → n ≤ 2 ^ 62 → IsWord (decimal n)
-decimal_is_word n h = IsWord-from_test is_ascii_digit (λ b e. grind (arith, nat_tests)) (decimal n) (digits_decimal own n (omega arith))
+decimal_is_word n h =
+    IsWord-from_test is_ascii_digit (λ b e. grind (arith, nat_tests)) (decimal n) (omega (arith, decimal_nonempty n (omega arith)))
+    (digits_decimal own n (omega arith))
+
+pub decimal_is_field : (n : ℕ) → n ≤ 2 ^ 62 → bytes_eq (decimal n) (codes ";") ≡ false
+decimal_is_field n h = no_semicolon is_ascii_digit refl (decimal n) (digits_decimal own n (omega arith))

@@ -1,12 +1,15 @@
 -- The outcome of reading lines is what a script is, and what its fault is.
-use Rattle.std.proofs.Common.{◌≡◌, ℕ, zero, suc, ◌+◌, Bool, true, false, MatchBool, List, [], ◌∷◌, take, Option, Some, None, Ok, Err, if◌then◌else◌, refl, sym, ap, ◌∙◌, arith}
-use Rattle.std.specs.List.{slice_get}
+use Rattle.std.proofs.Common.{◌≡◌, ℕ, zero, suc, ◌+◌, ◌≤◌, Bool, true, false, MatchBool, List, [], ◌∷◌, ◌++◌, length, drop, nat_lt, Result, Ok, Err, if◌then◌else◌, refl, sym, ap, ◌∙◌, subst, arith}
+use Rattle.std.proofs.lemmas.Bool.Decides.{nat_tests}
+use Rattle.script_lang.specs.declared.cause.Cause.{Cause}
+use Rattle.script_lang.specs.declared.cause.Cause.TheVariants.{Long, Lines}
 use Rattle.script_lang.specs.declared.line.Line.{Line}
 use Rattle.script_lang.specs.declared.line.Numbered.{Numbered}
-use Rattle.script_lang.specs.declared.read.Cause.TheVariants.{Unbuilt, Long, Lines}
-use Rattle.script_lang.specs.Scripts.{is_passed, lines_of, Reads, SaysFirst, IsWrong, IsFirstWrong}
+use Rattle.script_lang.specs.Contexts.{Context, moved, start}
+use Rattle.script_lang.specs.Scripts.{IsFault, IsFirstWrong, IsWhole, Reads, SaysFirst, is_passed, lines_of}
 use Rattle.script_lang.specs.Laws.{ReadingIsOne, ScriptHasNoFault, FaultIsOne}
-use Rattle.script_lang.specs.Reading.{Outcome, behind, told, line_of, outcome}
+use Rattle.script_lang.specs.Outcomes.{Outcome, behind, outcome, told}
+use Rattle.script_lang.specs.Reading.{line_of}
 use Rattle.script_lang.proofs.Spelled.{line_of-sound, line_of-says}
 
 -- what lines behind a command said
@@ -15,224 +18,273 @@ behind-ok : (first : Numbered) (others : Outcome) (said : List Numbered) → beh
 behind-ok first (Ok more) said h = (more, refl, cc h)
 behind-ok first (Err wrong) said h = cc h
 
-behind-err : (first : Numbered) (others : Outcome) (wrong : ℕ) → behind (first ∷ []) others ≡ Err wrong → others ≡ Err wrong
+behind-err : (first : Numbered) (others : Outcome) (wrong : ℕ × Cause) → behind (first ∷ []) others ≡ Err wrong → others ≡ Err wrong
 behind-err first (Ok more) wrong h = cc h
 behind-err first (Err w) wrong h = h
 
-told-ok : (number : ℕ) (line : Option Line) (others : Outcome) (said : List Numbered) → told number line others ≡ Ok said
-    → (l : Line) × (more : List Numbered) × (line ≡ Some l) × (others ≡ Ok more) × (record { number = number; line = l } ∷ more ≡ said)
-told-ok number None others said h = cc h
-told-ok number (Some l) others said h =
-    let b = behind-ok (record { number = number; line = l }) others said h in
+told-ok : (number : ℕ) (line : Result Line Cause) (others : Line → Outcome) (said : List Numbered) → told number line others ≡ Ok said
+    → (l : Line) × (more : List Numbered) × (line ≡ Ok l) × (others l ≡ Ok more) × (record { number = number; line = l } ∷ more ≡ said)
+told-ok number (Err why) others said h = cc h
+told-ok number (Ok l) others said h =
+    let b = behind-ok (record { number = number; line = l }) (others l) said h in
     (l, b.0, refl, b.1, b.2)
 
 -- ---- what was read is said
 
-said_by_test : (number : ℕ) (text : List ℕ) (texts : List (List ℕ)) (said : List Numbered)
-    → ((said : List Numbered) → outcome (number + 1) texts ≡ Ok said → Reads (number + 1) texts said)
-    → (passed : Bool)
-    → (if passed then outcome (number + 1) texts else told number (line_of text) (outcome (number + 1) texts)) ≡ Ok said
-    → MatchBool passed (Reads (number + 1) texts said) (SaysFirst number text (Reads (number + 1) texts) said)
-said_by_test number text texts said ih true h = ih said h
-said_by_test number text texts said ih false h =
-    let t = told-ok number (line_of text) (outcome (number + 1) texts) said h in
-    rw (← t.4) (refl, line_of-sound text t.0 t.2, ih t.1 t.3)
+-- all lines say these, and there is a context behind them
+pub record ReadsAll (ctx : Context) (number : ℕ) (texts : List (List ℕ)) (said : List Numbered) : Type 0 where
+  pub last : Context
+  pub reads : Reads ctx number (length texts) texts said last
 
-pub outcome-sound : (number : ℕ) (texts : List (List ℕ)) (said : List Numbered) → outcome number texts ≡ Ok said
-    → Reads number texts said
+said_by_test : (ctx : Context) (number : ℕ) (text : List ℕ) (texts : List (List ℕ)) (said : List Numbered)
+    → ((c : Context) (said : List Numbered) → outcome c (number + 1) texts ≡ Ok said → ReadsAll c (number + 1) texts said)
+    → (passed : Bool) → is_passed text ≡ passed
+    → (if passed then outcome ctx (number + 1) texts
+    else told number (line_of ctx texts text) (λ line. outcome (moved ctx line) (number + 1) texts)) ≡ Ok said
+    → ReadsAll ctx number (text ∷ texts) said
+said_by_test ctx number text texts said ih true is h =
+    let r = ih ctx said h in
+    record { last = r.last; reads = rw is r.reads }
+said_by_test ctx number text texts said ih false is h =
+    let t = told-ok number (line_of ctx texts text) _ said h in
+    let r = ih (moved ctx t.0) t.1 t.3 in
+    let s = line_of-sound ctx texts text t.0 t.2 in
+    let first : Numbered = record { number = number; line = t.0 } in
+    let read : Reads ctx number (suc (length texts)) (text ∷ texts) (first ∷ t.1) r.last = rw is (refl, s.says, s.place, r.reads) in
+    record {
+      last = r.last;
+      reads = subst (λ (x : List Numbered). Reads ctx number (suc (length texts)) (text ∷ texts) x r.last) t.4 read;
+    }
+
+pub outcome-sound : (ctx : Context) (number : ℕ) (texts : List (List ℕ)) (said : List Numbered) → outcome ctx number texts ≡ Ok said
+    → ReadsAll ctx number texts said
 unfolding outcome
-outcome-sound number [] said h = let e : [] ≡ said = cc h in sym e
-outcome-sound number (text ∷ texts) said h =
-    said_by_test number text texts said (λ said h. outcome-sound (number + 1) texts said h) (is_passed text) h
+outcome-sound ctx number [] said h = let e : [] ≡ said = cc h in record { last = ctx; reads = (sym e, refl) }
+outcome-sound ctx number (text ∷ texts) said h =
+    said_by_test ctx number text texts said (λ c said h. outcome-sound c (number + 1) texts said h) (is_passed text) refl h
 
 -- ---- what is said is read
 
-read_by_test : (number : ℕ) (text : List ℕ) (texts : List (List ℕ))
-    → ((said : List Numbered) → Reads (number + 1) texts said → outcome (number + 1) texts ≡ Ok said)
+read_by_test : (ctx last : Context) (number : ℕ) (text : List ℕ) (texts : List (List ℕ))
+    → ((c : Context) (said : List Numbered) → Reads c (number + 1) (length texts) texts said last → outcome c (number + 1) texts ≡ Ok said)
     → (passed : Bool) (said : List Numbered)
-    → MatchBool passed (Reads (number + 1) texts said) (SaysFirst number text (Reads (number + 1) texts) said)
-    → (if passed then outcome (number + 1) texts else told number (line_of text) (outcome (number + 1) texts)) ≡ Ok said
-read_by_test number text texts ih true said h = ih said h
-read_by_test number text texts ih false [] h = absurd h
-read_by_test number text texts ih false (first ∷ others) h =
-    let line = line_of-says text first.line h.1 in
-    let more = ih others h.2 in
+    → MatchBool passed (Reads ctx (number + 1) (length texts) texts said last)
+    (SaysFirst ctx number text texts (λ c others. Reads c (number + 1) (length texts) texts others last) said)
+    → (if passed then outcome ctx (number + 1) texts
+    else told number (line_of ctx texts text) (λ line. outcome (moved ctx line) (number + 1) texts)) ≡ Ok said
+read_by_test ctx last number text texts ih true said h = ih ctx said h
+read_by_test ctx last number text texts ih false [] h = absurd h
+read_by_test ctx last number text texts ih false (first ∷ others) h =
+    let line = line_of-says ctx texts text first.line h.1 h.2 in
+    let more = ih (moved ctx first.line) others h.3 in
     rw (line, more, ← h.0) refl
 
-pub outcome-reads : (number : ℕ) (texts : List (List ℕ)) (said : List Numbered) → Reads number texts said
-    → outcome number texts ≡ Ok said
+pub outcome-reads : (ctx last : Context) (number : ℕ) (texts : List (List ℕ)) (said : List Numbered)
+    → Reads ctx number (length texts) texts said last → outcome ctx number texts ≡ Ok said
 unfolding outcome
-outcome-reads number [] said h = rw h refl
-outcome-reads number (text ∷ texts) said h =
-    read_by_test number text texts (λ said h. outcome-reads (number + 1) texts said h) (is_passed text) said h
+outcome-reads ctx last number [] said h = rw h.0 refl
+outcome-reads ctx last number (text ∷ texts) said h =
+    read_by_test ctx last number text texts (λ c said h. outcome-reads c last (number + 1) texts said h) (is_passed text) said h
 
 -- ---- the first wrong line
 
--- the first wrong line of lines, the first of them of this number
-pub record IsWrongFrom (number : ℕ) (texts : List (List ℕ)) (wrong : ℕ) : Type 0 where
+-- the first wrong line of lines, the first of them of this number and in this context
+pub record IsWrongFrom (first : Context) (number : ℕ) (texts : List (List ℕ)) (wrong : ℕ) (cause : Cause) : Type 0 where
   pub before : ℕ
   pub counted : wrong ≡ number + before
   pub said : List Numbered
-  pub right : Reads number (take before texts) said
+  pub ctx : Context
+  pub right : Reads first number before texts said ctx
   pub text : List ℕ
-  pub there : slice_get texts before ≡ Some text
-  pub wrong_text : IsWrong text
+  pub behind : List (List ℕ)
+  pub there : drop before texts ≡ text ∷ behind
+  pub not_passed : is_passed text ≡ false
+  pub wrong_text : line_of ctx behind text ≡ Err cause
 
--- a line that is not read is wrong
-unread_is_wrong : (text : List ℕ) → is_passed text ≡ false → line_of text ≡ None → IsWrong text
-unread_is_wrong text passed none =
-    record { not_passed = passed; says_nothing = λ line s. let e = line_of-says text line s in cc }
-
--- a wrong line is not read
-wrong_is_unread : (text : List ℕ) (line : Option Line) → line_of text ≡ line → IsWrong text → line_of text ≡ None
-wrong_is_unread text None h wrong = h
-wrong_is_unread text (Some line) h wrong = absurd (wrong.says_nothing line (line_of-sound text line h))
-
-wrong_here : (number : ℕ) (text : List ℕ) (texts : List (List ℕ)) → is_passed text ≡ false → line_of text ≡ None
-    → (wrong : ℕ) → number ≡ wrong → IsWrongFrom number (text ∷ texts) wrong
-wrong_here number text texts passed none wrong e =
+wrong_here : (ctx : Context) (number : ℕ) (text : List ℕ) (texts : List (List ℕ)) (cause : Cause) → is_passed text ≡ false
+    → line_of ctx texts text ≡ Err cause → IsWrongFrom ctx number (text ∷ texts) number cause
+wrong_here ctx number text texts cause passed wrong =
     record {
       before = 0;
       counted = omega arith;
       said = [];
-      right = refl;
+      ctx = ctx;
+      right = (refl, refl);
       text = text;
+      behind = texts;
       there = refl;
-      wrong_text = unread_is_wrong text passed none;
+      not_passed = passed;
+      wrong_text = wrong;
     }
 
 -- a right line before the others: one that is passed over, or one that says a command
-wrong_behind_passed : (number : ℕ) (text : List ℕ) (texts : List (List ℕ)) (wrong : ℕ) → is_passed text ≡ true
-    → IsWrongFrom (number + 1) texts wrong → IsWrongFrom number (text ∷ texts) wrong
-wrong_behind_passed number text texts wrong passed w =
+wrong_behind_passed : (ctx : Context) (number : ℕ) (text : List ℕ) (texts : List (List ℕ)) (wrong : ℕ) (cause : Cause)
+    → is_passed text ≡ true → IsWrongFrom ctx (number + 1) texts wrong cause → IsWrongFrom ctx number (text ∷ texts) wrong cause
+wrong_behind_passed ctx number text texts wrong cause passed w =
     let counted = w.counted in
-    let read : Reads number (text ∷ take w.before texts) w.said = rw passed w.right in
+    let read : Reads ctx number (suc w.before) (text ∷ texts) w.said w.ctx = rw passed w.right in
     record {
       before = suc w.before;
       counted = omega arith;
       said = w.said;
+      ctx = w.ctx;
       right = read;
       text = w.text;
+      behind = w.behind;
       there = w.there;
+      not_passed = w.not_passed;
       wrong_text = w.wrong_text;
     }
 
-wrong_behind_said : (number : ℕ) (text : List ℕ) (texts : List (List ℕ)) (wrong : ℕ) (line : Line) → is_passed text ≡ false
-    → line_of text ≡ Some line → IsWrongFrom (number + 1) texts wrong → IsWrongFrom number (text ∷ texts) wrong
-wrong_behind_said number text texts wrong line passed says w =
+wrong_behind_said : (ctx : Context) (number : ℕ) (text : List ℕ) (texts : List (List ℕ)) (wrong : ℕ) (cause : Cause) (line : Line)
+    → is_passed text ≡ false → line_of ctx texts text ≡ Ok line → IsWrongFrom (moved ctx line) (number + 1) texts wrong cause
+    → IsWrongFrom ctx number (text ∷ texts) wrong cause
+wrong_behind_said ctx number text texts wrong cause line passed says w =
     let counted = w.counted in
+    let s = line_of-sound ctx texts text line says in
     let said : List Numbered = record { number = number; line = line } ∷ w.said in
-    let read : Reads number (text ∷ take w.before texts) said = rw passed (refl, line_of-sound text line says, w.right) in
+    let read : Reads ctx number (suc w.before) (text ∷ texts) said w.ctx = rw passed (refl, s.says, s.place, w.right) in
     record {
       before = suc w.before;
       counted = omega arith;
       said = said;
+      ctx = w.ctx;
       right = read;
       text = w.text;
+      behind = w.behind;
       there = w.there;
+      not_passed = w.not_passed;
       wrong_text = w.wrong_text;
     }
 
-told_wrong : (number : ℕ) (text : List ℕ) (texts : List (List ℕ)) (wrong : ℕ)
-    → ((wrong : ℕ) → outcome (number + 1) texts ≡ Err wrong → IsWrongFrom (number + 1) texts wrong)
-    → is_passed text ≡ false → (line : Option Line) → line_of text ≡ line
-    → told number line (outcome (number + 1) texts) ≡ Err wrong → IsWrongFrom number (text ∷ texts) wrong
-told_wrong number text texts wrong ih passed None says h = wrong_here number text texts passed says wrong (cc h)
-told_wrong number text texts wrong ih passed (Some line) says h =
-    wrong_behind_said number text texts wrong line passed says
-    (ih wrong (behind-err (record { number = number; line = line }) (outcome (number + 1) texts) wrong h))
+told_wrong : (ctx : Context) (number : ℕ) (text : List ℕ) (texts : List (List ℕ)) (wrong : ℕ × Cause)
+    → ((c : Context) (wrong : ℕ × Cause) → outcome c (number + 1) texts ≡ Err wrong → IsWrongFrom c (number + 1) texts wrong.0 wrong.1)
+    → is_passed text ≡ false → (line : Result Line Cause) → line_of ctx texts text ≡ line
+    → told number line (λ line. outcome (moved ctx line) (number + 1) texts) ≡ Err wrong
+    → IsWrongFrom ctx number (text ∷ texts) wrong.0 wrong.1
+told_wrong ctx number text texts wrong ih passed (Err why) says h =
+    let e : (number, why) ≡ wrong = cc h in
+    rw (← e) (wrong_here ctx number text texts why passed says)
+told_wrong ctx number text texts wrong ih passed (Ok line) says h =
+    wrong_behind_said ctx number text texts wrong.0 wrong.1 line passed says
+    (ih (moved ctx line) wrong (behind-err (record { number = number; line = line }) (outcome (moved ctx line) (number + 1) texts) wrong h))
 
-wrong_by_test : (number : ℕ) (text : List ℕ) (texts : List (List ℕ)) (wrong : ℕ)
-    → ((wrong : ℕ) → outcome (number + 1) texts ≡ Err wrong → IsWrongFrom (number + 1) texts wrong)
+wrong_by_test : (ctx : Context) (number : ℕ) (text : List ℕ) (texts : List (List ℕ)) (wrong : ℕ × Cause)
+    → ((c : Context) (wrong : ℕ × Cause) → outcome c (number + 1) texts ≡ Err wrong → IsWrongFrom c (number + 1) texts wrong.0 wrong.1)
     → (passed : Bool) → is_passed text ≡ passed
-    → (if passed then outcome (number + 1) texts else told number (line_of text) (outcome (number + 1) texts)) ≡ Err wrong
-    → IsWrongFrom number (text ∷ texts) wrong
-wrong_by_test number text texts wrong ih true is h = wrong_behind_passed number text texts wrong is (ih wrong h)
-wrong_by_test number text texts wrong ih false is h = told_wrong number text texts wrong ih is (line_of text) refl h
+    → (if passed then outcome ctx (number + 1) texts
+    else told number (line_of ctx texts text) (λ line. outcome (moved ctx line) (number + 1) texts)) ≡ Err wrong
+    → IsWrongFrom ctx number (text ∷ texts) wrong.0 wrong.1
+wrong_by_test ctx number text texts wrong ih true is h = wrong_behind_passed ctx number text texts wrong.0 wrong.1 is (ih ctx wrong h)
+wrong_by_test ctx number text texts wrong ih false is h = told_wrong ctx number text texts wrong ih is (line_of ctx texts text) refl h
 
-outcome-wrong : (number : ℕ) (texts : List (List ℕ)) (wrong : ℕ) → outcome number texts ≡ Err wrong → IsWrongFrom number texts wrong
+outcome-wrong : (ctx : Context) (number : ℕ) (texts : List (List ℕ)) (wrong : ℕ × Cause) → outcome ctx number texts ≡ Err wrong
+    → IsWrongFrom ctx number texts wrong.0 wrong.1
 unfolding outcome
-outcome-wrong number [] wrong h = cc h
-outcome-wrong number (text ∷ texts) wrong h =
-    wrong_by_test number text texts wrong (λ wrong h. outcome-wrong (number + 1) texts wrong h) (is_passed text) refl h
+outcome-wrong ctx number [] wrong h = cc h
+outcome-wrong ctx number (text ∷ texts) wrong h =
+    wrong_by_test ctx number text texts wrong (λ c wrong h. outcome-wrong c (number + 1) texts wrong h) (is_passed text) refl h
 
 -- a wrong line behind right ones is the outcome
-wrong_outcome_by_test : (number : ℕ) (text : List ℕ) (texts : List (List ℕ)) (before : ℕ)
-    → ((said : List Numbered) → Reads (number + 1) (take before texts) said → outcome (number + 1) texts ≡ Err (number + 1 + before))
+wrong_outcome_by_test : (ctx last : Context) (number : ℕ) (text : List ℕ) (texts : List (List ℕ)) (before : ℕ) (cause : Cause)
+    → ((c : Context) (said : List Numbered) → Reads c (number + 1) before texts said last
+    → outcome c (number + 1) texts ≡ Err (number + 1 + before, cause))
     → (passed : Bool) (said : List Numbered)
-    → MatchBool passed (Reads (number + 1) (take before texts) said) (SaysFirst number text (Reads (number + 1) (take before texts)) said)
-    → (if passed then outcome (number + 1) texts else told number (line_of text) (outcome (number + 1) texts)) ≡ Err (number + 1 + before)
-wrong_outcome_by_test number text texts before ih true said h = ih said h
-wrong_outcome_by_test number text texts before ih false [] h = absurd h
-wrong_outcome_by_test number text texts before ih false (first ∷ others) h =
-    let line = line_of-says text first.line h.1 in
-    let more = ih others h.2 in
+    → MatchBool passed (Reads ctx (number + 1) before texts said last)
+    (SaysFirst ctx number text texts (λ c others. Reads c (number + 1) before texts others last) said)
+    → (if passed then outcome ctx (number + 1) texts
+    else told number (line_of ctx texts text) (λ line. outcome (moved ctx line) (number + 1) texts)) ≡ Err (number + 1 + before, cause)
+wrong_outcome_by_test ctx last number text texts before cause ih true said h = ih ctx said h
+wrong_outcome_by_test ctx last number text texts before cause ih false [] h = absurd h
+wrong_outcome_by_test ctx last number text texts before cause ih false (first ∷ others) h =
+    let line = line_of-says ctx texts text first.line h.1 h.2 in
+    let more = ih (moved ctx first.line) others h.3 in
     rw (line, more) refl
 
-from_wrong : (number : ℕ) (texts : List (List ℕ)) (before : ℕ) (said : List Numbered) (text : List ℕ)
-    → Reads number (take before texts) said → slice_get texts before ≡ Some text → IsWrong text
-    → outcome number texts ≡ Err (number + before)
+from_wrong : (ctx last : Context) (number : ℕ) (texts : List (List ℕ)) (before : ℕ) (said : List Numbered) (text : List ℕ)
+    (rest : List (List ℕ)) (cause : Cause) → Reads ctx number before texts said last → drop before texts ≡ text ∷ rest
+    → is_passed text ≡ false → line_of last rest text ≡ Err cause → outcome ctx number texts ≡ Err (number + before, cause)
 unfolding outcome
-from_wrong number [] before said text h t w = cc t
-from_wrong number (first ∷ texts) zero said text h t w =
+from_wrong ctx last number [] zero said text rest cause h t p w = cc t
+from_wrong ctx last number [] (suc before) said text rest cause h t p w = absurd h
+from_wrong ctx last number (first ∷ texts) zero said text rest cause h t p w =
     let e : first ≡ text = cc t in
-    let passed : is_passed first ≡ false = rw e w.not_passed in
-    let none : line_of first ≡ None = rw e (wrong_is_unread text (line_of text) refl w) in
+    let r : texts ≡ rest = cc t in
+    let passed : is_passed first ≡ false = rw e p in
+    let wrong : line_of ctx texts first ≡ Err cause = rw (e, r, ← h.1) w in
     let same : number ≡ number + 0 = omega arith in
-    rw (passed, none) (ap Err same)
-from_wrong number (first ∷ texts) (suc before) said text h t w =
+    rw (passed, wrong) (ap (λ (n : ℕ). Err (n, cause)) same)
+from_wrong ctx last number (first ∷ texts) (suc before) said text rest cause h t p w =
     let same : number + 1 + before ≡ number + suc before = omega arith in
-    wrong_outcome_by_test number first texts before
-    (λ said h. from_wrong (number + 1) texts before said text h t w)
+    wrong_outcome_by_test ctx last number first texts before cause
+    (λ c said h. from_wrong c last (number + 1) texts before said text rest cause h t p w)
     (is_passed first) said h
-    ∙ ap Err same
+    ∙ ap (λ (n : ℕ). Err (n, cause)) same
 
-pub IsFirstWrong-from_outcome : (texts : List (List ℕ)) (wrong : ℕ) → outcome 1 texts ≡ Err wrong → IsFirstWrong texts wrong
-IsFirstWrong-from_outcome texts wrong h =
-    let w = outcome-wrong 1 texts wrong h in
+pub IsFirstWrong-from_outcome : (texts : List (List ℕ)) (wrong : ℕ) (cause : Cause) → outcome start 1 texts ≡ Err (wrong, cause)
+    → IsFirstWrong texts wrong cause
+IsFirstWrong-from_outcome texts wrong cause h =
+    let w = outcome-wrong start 1 texts (wrong, cause) h in
     let counted = w.counted in
     record {
       before = w.before;
       counted = omega arith;
       said = w.said;
+      ctx = w.ctx;
       right = w.right;
       text = w.text;
+      behind = w.behind;
       there = w.there;
+      not_passed = w.not_passed;
       wrong = w.wrong_text;
     }
 
-pub outcome-first_wrong : (texts : List (List ℕ)) (wrong : ℕ) → IsFirstWrong texts wrong → outcome 1 texts ≡ Err wrong
-outcome-first_wrong texts wrong w =
+pub outcome-first_wrong : (texts : List (List ℕ)) (wrong : ℕ) (cause : Cause) → IsFirstWrong texts wrong cause
+    → outcome start 1 texts ≡ Err (wrong, cause)
+outcome-first_wrong texts wrong cause w =
     let counted = w.counted in
     let same : 1 + w.before ≡ wrong = omega arith in
-    from_wrong 1 texts w.before w.said w.text w.right w.there w.wrong ∙ ap Err same
+    from_wrong start w.ctx 1 texts w.before w.said w.text w.behind cause w.right w.there w.not_passed w.wrong
+    ∙ ap (λ (n : ℕ). Err (n, cause)) same
 
 -- ---- the laws
 
 pub reading_is_one : (bytes : List ℕ) → ReadingIsOne bytes
 reading_is_one bytes one other a b =
-    let first = outcome-reads 1 (lines_of bytes) one a.reads in
-    let second = outcome-reads 1 (lines_of bytes) other b.reads in
+    let first = outcome-reads start a.ctx 1 (lines_of bytes) one a.reads in
+    let second = outcome-reads start b.ctx 1 (lines_of bytes) other b.reads in
     cc
+
+no_whole : (bytes : List ℕ) (line : ℕ) (cause : Cause) (long many : Bool) → long ≡ false → many ≡ false
+    → MatchBool long (IsWhole line cause Long) (MatchBool many (IsWhole line cause Lines) (IsFirstWrong (lines_of bytes) line cause))
+    → IsFirstWrong (lines_of bytes) line cause
+no_whole bytes line cause false false a b f = f
+no_whole bytes line cause false true a b f = cc b
+no_whole bytes line cause true many a b f = cc a
 
 pub script_has_no_fault : (bytes : List ℕ) → ScriptHasNoFault bytes
-script_has_no_fault bytes said line Long s f = let short = s.limits.short in omega arith
-script_has_no_fault bytes said line Lines s f = let few = s.limits.few in omega arith
-script_has_no_fault bytes said line Unbuilt s f =
-    let read = outcome-reads 1 (lines_of bytes) said s.reads in
-    let wrong = outcome-first_wrong (lines_of bytes) line f.1 in
+script_has_no_fault bytes said line cause s f =
+    let short = s.limits.short in
+    let few = s.limits.few in
+    let long : nat_lt 268435456 (length bytes) ≡ false = grind (arith, nat_tests) in
+    let many : nat_lt 1000000 (length (lines_of bytes)) ≡ false = grind (arith, nat_tests) in
+    let wrong : IsFirstWrong (lines_of bytes) line cause = no_whole bytes line cause _ _ long many f in
+    let read = outcome-reads start s.ctx 1 (lines_of bytes) said s.reads in
+    let not_read = outcome-first_wrong (lines_of bytes) line cause wrong in
     cc
 
+one_by_tests : (bytes : List ℕ) (line other : ℕ) (cause other_cause : Cause) (long many : Bool)
+    → MatchBool long (IsWhole line cause Long) (MatchBool many (IsWhole line cause Lines) (IsFirstWrong (lines_of bytes) line cause))
+    → MatchBool long (IsWhole other other_cause Long) (MatchBool many (IsWhole other other_cause Lines) (IsFirstWrong (lines_of bytes) other other_cause))
+    → (line ≡ other) × (cause ≡ other_cause)
+one_by_tests bytes line other cause other_cause true many f g = (f.0 ∙ sym g.0, f.1 ∙ sym g.1)
+one_by_tests bytes line other cause other_cause false true f g = (f.0 ∙ sym g.0, f.1 ∙ sym g.1)
+one_by_tests bytes line other cause other_cause false false f g =
+    let first = outcome-first_wrong (lines_of bytes) line cause f in
+    let second = outcome-first_wrong (lines_of bytes) other other_cause g in
+    let same : (line, cause) ≡ (other, other_cause) = cc in
+    (ap (λ (p : ℕ × Cause). p.0) same, ap (λ (p : ℕ × Cause). p.1) same)
+
 pub fault_is_one : (bytes : List ℕ) → FaultIsOne bytes
-fault_is_one bytes line other Long Long f g = (omega arith, refl)
-fault_is_one bytes line other Lines Lines f g = (omega arith, refl)
-fault_is_one bytes line other Unbuilt Unbuilt f g =
-    let first = outcome-first_wrong (lines_of bytes) line f.1 in
-    let second = outcome-first_wrong (lines_of bytes) other g.1 in
-    (cc, refl)
-fault_is_one bytes line other Long Lines f g = absurd (omega arith)
-fault_is_one bytes line other Lines Long f g = absurd (omega arith)
-fault_is_one bytes line other Long Unbuilt f g = let short = g.0.short in absurd (omega arith)
-fault_is_one bytes line other Unbuilt Long f g = let short = f.0.short in absurd (omega arith)
-fault_is_one bytes line other Lines Unbuilt f g = let few = g.0.few in absurd (omega arith)
-fault_is_one bytes line other Unbuilt Lines f g = let few = f.0.few in absurd (omega arith)
+fault_is_one bytes line other cause other_cause f g =
+    one_by_tests bytes line other cause other_cause (nat_lt 268435456 (length bytes)) (nat_lt 1000000 (length (lines_of bytes))) f g

@@ -1,7 +1,7 @@
 -- What follows from the grammar.
 use Rattle.std.specs.Prelude.{◌≡◌, ℕ, List}
 use Rattle.script_lang.specs.declared.line.Numbered.{Numbered}
-use Rattle.script_lang.specs.declared.read.Cause.{Cause}
+use Rattle.script_lang.specs.declared.cause.Cause.{Cause}
 use Rattle.script_lang.specs.Scripts.{IsScript, IsFault}
 
 -- a text reads as one list of lines at most

@@ -1,12 +1,13 @@
 -- What a script is, and the fault of a text that is none.
-use Rattle.std.specs.Prelude.{◌≡◌, ◌≤◌, ◌<◌, ℕ, ◌+◌, Bool, true, false, List, [], ◌∷◌, length, take, Some, slice_get, if◌then◌else◌, ◌==◌, MatchBool}
-use Rattle.script_lang.specs.declared.line.Line.{Line}
+use Rattle.std.specs.Prelude.{◌≡◌, ◌≤◌, ℕ, zero, suc, ◌+◌, Bool, true, false, List, [], ◌∷◌, length, drop, Result, Err, if◌then◌else◌, ◌==◌, nat_lt, MatchBool}
 use Rattle.script_lang.specs.declared.line.Numbered.{Numbered}
-use Rattle.script_lang.specs.declared.read.Cause.{Cause}
-use Rattle.script_lang.specs.declared.read.Cause.TheVariants.{Unbuilt, Long, Lines}
-use Rattle.script_lang.specs.declared.read.ScriptFault.{ScriptFault}
-use Rattle.script_lang.specs.declared.read.ScriptFault.TheVariants.{Bad, NoMemory}
+use Rattle.script_lang.specs.declared.cause.Cause.{Cause}
+use Rattle.script_lang.specs.declared.cause.Cause.TheVariants.{Long, Lines}
+use Rattle.script_lang.specs.declared.cause.ScriptFault.{ScriptFault}
+use Rattle.script_lang.specs.declared.cause.ScriptFault.TheVariants.{Bad, NoMemory}
 use Rattle.script_lang.specs.Spelling.{Says}
+use Rattle.script_lang.specs.Contexts.{Context, MayStand, moved, start}
+use Rattle.script_lang.specs.Reading.{line_of}
 
 -- a byte in front of the first of these lines
 abbrev pub in_front : ℕ → List (List ℕ) → List (List ℕ)
@@ -23,31 +24,34 @@ abbrev pub is_passed : List ℕ → Bool
 is_passed [] = true
 is_passed (b ∷ text) = b == 0x23
 
--- the first of these is the line of this number, which the text says, and the others satisfy the rest
-abbrev pub SaysFirst : ℕ → List ℕ → (List Numbered → Type 0) → List Numbered → Type 0
-SaysFirst number text Rest [] = ⊥
-SaysFirst number text Rest (first ∷ others) = (first.number ≡ number) × Says text first.line × Rest others
+-- The first of these is the line of this number: the text says it, and it may stand in this context before these lines.
+-- The others satisfy the rest, in the context behind it.
+abbrev pub SaysFirst : Context → ℕ → List ℕ → List (List ℕ) → (Context → List Numbered → Type 0) → List Numbered → Type 0
+SaysFirst ctx number text texts Rest [] = ⊥
+SaysFirst ctx number text texts Rest (first ∷ others) =
+    (first.number ≡ number) × Says text first.line × MayStand ctx texts first.line × Rest (moved ctx first.line) others
 
--- the lines of a text, the first of them of this number, say these
-abbrev pub Reads : ℕ → List (List ℕ) → List Numbered → Type 0
-Reads number [] said = said ≡ []
-Reads number (text ∷ texts) said =
-    MatchBool (is_passed text) (Reads (number + 1) texts said) (SaysFirst number text (Reads (number + 1) texts) said)
+-- so many lines, the first of them of this number and in this context, say these, and this is the context behind them
+abbrev pub Reads : Context → ℕ → (count : ℕ) → List (List ℕ) → List Numbered → Context → Type 0
+Reads ctx number zero texts said behind = (said ≡ []) × (behind ≡ ctx)
+Reads ctx number (suc count) [] said behind = ⊥
+Reads ctx number (suc count) (text ∷ texts) said behind =
+    MatchBool (is_passed text)
+    (Reads ctx (number + 1) count texts said behind)
+    (SaysFirst ctx number text texts (λ c others. Reads c (number + 1) count texts others behind) said)
 
--- a line that is not passed over and says nothing
-pub record IsWrong (text : List ℕ) : Type 0 where
-  pub not_passed : is_passed text ≡ false
-  pub says_nothing : (line : Line) → Says text line → ⊥
-
--- the lines before this number are right, and the line of this number is wrong
-pub record IsFirstWrong (texts : List (List ℕ)) (number : ℕ) : Type 0 where
+-- the lines before this number are right, and the line of this number is wrong, for this cause
+pub record IsFirstWrong (texts : List (List ℕ)) (number : ℕ) (cause : Cause) : Type 0 where
   pub before : ℕ
   pub counted : number ≡ before + 1
   pub said : List Numbered
-  pub right : Reads 1 (take before texts) said
+  pub ctx : Context
+  pub right : Reads start 1 before texts said ctx
   pub text : List ℕ
-  pub there : slice_get texts before ≡ Some text
-  pub wrong : IsWrong text
+  pub behind : List (List ℕ)
+  pub there : drop before texts ≡ text ∷ behind
+  pub not_passed : is_passed text ≡ false
+  pub wrong : line_of ctx behind text ≡ Err cause
 
 -- a text within both limits
 pub record IsWithinLimits (bytes : List ℕ) : Type 0 where
@@ -57,13 +61,20 @@ pub record IsWithinLimits (bytes : List ℕ) : Type 0 where
 -- a text is a script that says these lines
 pub record IsScript (bytes : List ℕ) (said : List Numbered) : Type 0 where
   pub limits : IsWithinLimits bytes
-  pub reads : Reads 1 (lines_of bytes) said
+  pub ctx : Context
+  pub reads : Reads start 1 (length (lines_of bytes)) (lines_of bytes) said ctx
+
+-- told with line 0, for the text as a whole
+abbrev pub IsWhole : ℕ → Cause → Cause → Type 0
+IsWhole line cause wanted = (line ≡ 0) × (cause ≡ wanted)
 
 -- the fault of a text: its length, its number of lines, or its first wrong line, in this order
 abbrev pub IsFault : List ℕ → ℕ → Cause → Type 0
-IsFault bytes line Long = (line ≡ 0) × (268435456 < length bytes)
-IsFault bytes line Lines = (line ≡ 0) × (length bytes ≤ 268435456) × (1000000 < length (lines_of bytes))
-IsFault bytes line Unbuilt = IsWithinLimits bytes × IsFirstWrong (lines_of bytes) line
+IsFault bytes line cause =
+    MatchBool (nat_lt 268435456 (length bytes)) (IsWhole line cause Long) (
+    MatchBool (nat_lt 1000000 (length (lines_of bytes))) (IsWhole line cause Lines) (
+    IsFirstWrong (lines_of bytes) line cause
+    ))
 
 -- what the reader answers has its cause; want of memory is free
 abbrev pub Explains : List ℕ → ScriptFault → Type 0

@@ -1,61 +1,80 @@
-//! The fields of lines and sub-operations: the next word as a value.
+//! The fields of lines and sub-operations: a word as a value, or why it is none.
 ghost use Rattle.std.specs.Prelude.{◌≡◌};
-ghost use Rattle.script_lang.specs.Reading.{Tells, rest_of, number_at, client_at, bytes_at, name_at};
+ghost use Rattle.std.specs.Option.{option_copied};
+ghost use Rattle.script_lang.specs.declared.cause.Cause.TheVariants as cause;
+ghost use Rattle.script_lang.specs.Outcomes.{Tells};
+ghost use Rattle.script_lang.specs.Reading.{after_of, bytes_of, client_of, fit, name_of, number_of};
 
-use crate::values::{read_bytes, read_name, read_number};
-use crate::words::{LineFault, Words};
+use crate::cause::{Cause, LineFault};
+use crate::values::{read_after, read_bytes, read_name, read_number};
 use obj_model::{Bytes, Name};
 use std::alloc::Global;
 
 /// The greatest number of a client. They begin at 1.
 const CLIENT_LIMIT: u64 = 256;
 
-impl<'a> Words<'a> {
-    /// The next word as a number.
-    pub(crate) fn number(&mut self) -> Result<u64, LineFault>
-        ensures value { Tells result (number_at self.old) }
-        ensures rest { self.new ≡ rest_of self.old }
-    {
-        let Some(word) = self.next() else {
-            return Err(LineFault::Wrong);
-        };
-        match read_number(word) {
+/// A word as a number.
+pub(crate) fn number_in(word: Option<&[u8]>) -> Result<u64, LineFault>
+    ensures { Tells result (fit cause.Number number_of (option_copied word.entry)) }
+{
+    match word {
+        Some(word) => match read_number(word) {
             Some(number) => Ok(number),
-            None => Err(LineFault::Wrong),
-        }
+            None => Err(LineFault::Wrong(Cause::Number)),
+        },
+        None => Err(LineFault::Wrong(Cause::Words)),
     }
+}
 
-    /// The next word as the number of a client.
-    pub(crate) fn client(&mut self) -> Result<u16, LineFault>
-        ensures value { Tells result (client_at self.old) }
-        ensures rest { self.new ≡ rest_of self.old }
-    {
-        match self.number() {
-            Ok(number) if number >= 1 && number <= CLIENT_LIMIT => Ok(number as u16),
-            Ok(_) => Err(LineFault::Wrong),
-            Err(fault) => Err(fault),
-        }
+/// A number as a client's.
+pub(crate) fn client_in(number: u64) -> Result<u16, LineFault>
+    ensures { Tells result (client_of number) }
+{
+    if number >= 1 && number <= CLIENT_LIMIT {
+        Ok(number as u16)
+    } else {
+        Err(LineFault::Wrong(Cause::Client))
     }
+}
 
-    /// The next word as bytes.
-    pub(crate) fn bytes(&mut self, alloc: Global) -> Result<Bytes, LineFault>
-        ensures value { Tells result (bytes_at self.old) }
-        ensures rest { self.new ≡ rest_of self.old }
-    {
-        let Some(word) = self.next() else {
-            return Err(LineFault::Wrong);
-        };
-        read_bytes(alloc, word)
+/// A word as bytes.
+pub(crate) fn bytes_in(alloc: Global, word: Option<&[u8]>) -> Result<Bytes, LineFault>
+    ensures { Tells result (fit cause.Hex bytes_of (option_copied word.entry)) }
+{
+    match word {
+        Some(word) => match read_bytes(alloc, word) {
+            Ok(Some(bytes)) => Ok(bytes),
+            Ok(None) => Err(LineFault::Wrong(Cause::Hex)),
+            Err(_) => Err(LineFault::NoMemory),
+        },
+        None => Err(LineFault::Wrong(Cause::Words)),
     }
+}
 
-    /// The next word as a name.
-    pub(crate) fn name(&mut self, alloc: Global) -> Result<Name, LineFault>
-        ensures value { Tells result (name_at self.old) }
-        ensures rest { self.new ≡ rest_of self.old }
-    {
-        let Some(word) = self.next() else {
-            return Err(LineFault::Wrong);
-        };
-        read_name(alloc, word)
+/// A word as a name.
+pub(crate) fn name_in(alloc: Global, word: Option<&[u8]>) -> Result<Name, LineFault>
+    ensures { Tells result (fit cause.Name name_of (option_copied word.entry)) }
+{
+    match word {
+        Some(word) => match read_name(alloc, word) {
+            Ok(Some(name)) => Ok(name),
+            Ok(None) => Err(LineFault::Wrong(Cause::Name)),
+            Err(_) => Err(LineFault::NoMemory),
+        },
+        None => Err(LineFault::Wrong(Cause::Words)),
+    }
+}
+
+/// A word as the key to go on from, or none.
+pub(crate) fn after_in(alloc: Global, word: Option<&[u8]>) -> Result<Option<Name>, LineFault>
+    ensures { Tells result (fit cause.Name after_of (option_copied word.entry)) }
+{
+    match word {
+        Some(word) => match read_after(alloc, word) {
+            Ok(Some(after)) => Ok(after),
+            Ok(None) => Err(LineFault::Wrong(Cause::Name)),
+            Err(_) => Err(LineFault::NoMemory),
+        },
+        None => Err(LineFault::Wrong(Cause::Words)),
     }
 }

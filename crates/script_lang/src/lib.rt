@@ -1,22 +1,27 @@
 //! The script language: what its lines say, and the one reading of a text.
 //!
-//! The grammar is the spelling of each line. `read_script` gives lines exactly where the text is their spellings, and
-//! else the first line that is none.
+//! The grammar is the spelling of each line, beside where a line may stand: no moment is below an
+//! earlier one, and a block has requests and readings of at most 16 clients and an end.
+//! `read_script` gives lines exactly where the text is their spellings, each where it may stand, and
+//! else the first line that is none, with its cause. A text has at most one reading and at most one
+//! fault, and never both.
 #![tactic(auto)]
 
+mod cause;
+mod context;
 mod fields;
 mod laws;
+mod left_out;
 mod line;
 mod lines;
 mod read;
 mod split;
 mod sub_ops;
 mod values;
+mod verbs;
 mod words;
 
+pub use cause::{Cause, ScriptFault};
 pub use laws::{fault_is_one, reading_is_one, script_has_no_fault};
 pub use line::{Line, Numbered};
-pub use read::{Cause, LENGTH_LIMIT, LINES_LIMIT, ScriptFault, read_script};
-
-#[cfg(test)]
-mod tests;
+pub use read::{LENGTH_LIMIT, LINES_LIMIT, read_script};

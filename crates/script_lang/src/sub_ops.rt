@@ -1,20 +1,47 @@
 //! Sub-operations and vectors of a line.
 ghost use Rattle.std.specs.Prelude.{◌≡◌};
-ghost use Rattle.script_lang.specs.Reading.{Tells, Takes, op_at, op_from, writefull_from, read_from, ops_of, vector_of};
+ghost use Rattle.std.specs.Option.{option_copied};
+ghost use Rattle.script_lang.specs.Outcomes.{Takes, Tells};
+ghost use Rattle.script_lang.specs.Reading.{after_at, bytes_at, if_vector, name_at, number_at, op_at, op_from, op_of, ops_of, rest_of, vector_of};
+ghost use Rattle.obj_model.specs.Vectors.{vector_fault};
 
-use crate::words::{LineFault, Words};
-use obj_model::{OpList, SubOp, Vector};
+use crate::cause::{Cause, LineFault};
+use crate::fields::{after_in, bytes_in, name_in, number_in};
+use crate::left_out::unknown;
+use crate::verbs::OpVerb;
+use crate::words::Words;
+use obj_model::{BadVector, Bytes, Name, OpList, SubOp, Vector};
 use std::alloc::Global;
 
-/// All words that are left, as a vector.
+/// All words that are left, as the vector of a request, which writes, or of a reading, which does
+/// not.
 #[tactic(auto, unfolding(crate::specs::Reading::vector_of))]
-pub(crate) fn read_vector(alloc: Global, words: &mut Words) -> Result<Vector, LineFault>
-    ensures { Tells result (vector_of words.old) }
+pub(crate) fn read_vector(
+    alloc: Global,
+    writes: bool,
+    words: &mut Words,
+) -> Result<Vector, LineFault>
+    ensures { Tells result (vector_of writes words.old) }
 {
     let ops = read_ops(alloc, words)?;
+    let vector = as_vector(ops)?;
+    if vector.writes() != writes {
+        return Err(LineFault::Wrong(Cause::Mixed(0)));
+    }
+    Ok(vector)
+}
+
+// Sub-operations as a vector, if nothing is wrong with them as a whole.
+fn as_vector(ops: OpList) -> Result<Vector, LineFault>
+    ensures { Tells result (if_vector (vector_fault ops) ops) }
+{
     match Vector::new(ops.into_vec()) {
         Ok(vector) => Ok(vector),
-        Err(_) => Err(LineFault::Wrong),
+        Err(BadVector::Empty) => Err(LineFault::Wrong(Cause::Words)),
+        Err(BadVector::TooMany(_)) => Err(LineFault::Wrong(Cause::Many)),
+        Err(BadVector::Far(_)) => Err(LineFault::Wrong(Cause::Number)),
+        Err(BadVector::Mixed(place)) => Err(LineFault::Wrong(Cause::Mixed(place))),
+        Err(BadVector::Heavy(_)) => Err(LineFault::Wrong(Cause::Heavy)),
     }
 }
 
@@ -31,7 +58,7 @@ fn read_ops(alloc: Global, words: &mut Words) -> Result<OpList, LineFault>
         match words.next() {
             None => return Ok(ops),
             Some(word) if word == b";".as_slice() => {}
-            Some(_) => return Err(LineFault::Wrong),
+            Some(_) => return Err(LineFault::Wrong(Cause::Words)),
         }
     }
 }
@@ -40,39 +67,131 @@ fn read_ops(alloc: Global, words: &mut Words) -> Result<OpList, LineFault>
 fn read_op(alloc: Global, words: &mut Words) -> Result<SubOp, LineFault>
     ensures { Takes result (op_at words.old) words.new }
 {
-    let Some(verb) = words.next() else {
-        return Err(LineFault::Wrong);
-    };
-    read_op_of(alloc, verb, words)
-}
-
-// The sub-operation of this verb, whose fields are the next words.
-#[tactic(auto, unfolding(crate::specs::Reading::op_from))]
-fn read_op_of(alloc: Global, verb: &[u8], words: &mut Words) -> Result<SubOp, LineFault>
-    ensures { Takes result (op_from verb.now words.old) words.new }
-{
-    if verb == b"writefull".as_slice() {
-        read_write_full(alloc, words)
-    } else if verb == b"remove".as_slice() {
-        Ok(SubOp::Remove)
-    } else if verb == b"read".as_slice() {
-        read_read(words)
-    } else {
-        Err(LineFault::Wrong)
+    match words.word() {
+        Some(word) => read_op_from(alloc, word, words),
+        None => Err(LineFault::Wrong(Cause::Words)),
     }
 }
 
-fn read_write_full(alloc: Global, words: &mut Words) -> Result<SubOp, LineFault>
-    ensures { Takes result (writefull_from words.old) words.new }
+// The sub-operation that begins with this word, whose fields are the next words.
+fn read_op_from(alloc: Global, word: &[u8], words: &mut Words) -> Result<SubOp, LineFault>
+    ensures { Takes result (op_from words.old word.now) words.new }
 {
-    let bytes = words.bytes(alloc)?;
-    Ok(SubOp::WriteFull { bytes })
+    match OpVerb::of(word) {
+        Some(verb) => read_op_of(alloc, verb, words),
+        None => Err(unknown(alloc, word, Cause::Subop)),
+    }
 }
 
-fn read_read(words: &mut Words) -> Result<SubOp, LineFault>
-    ensures { Takes result (read_from words.old) words.new }
+// The next word as a number.
+fn number(words: &mut Words) -> Result<u64, LineFault>
+    ensures value { Tells result (number_at words.old) }
+    ensures rest { words.new ≡ rest_of words.old }
 {
-    let off = words.number()?;
-    let len = words.number()?;
-    Ok(SubOp::Read { off, len })
+    number_in(words.field())
+}
+
+// The next word as bytes.
+fn bytes(alloc: Global, words: &mut Words) -> Result<Bytes, LineFault>
+    ensures value { Tells result (bytes_at words.old) }
+    ensures rest { words.new ≡ rest_of words.old }
+{
+    bytes_in(alloc, words.field())
+}
+
+// The next word as a key.
+fn key(alloc: Global, words: &mut Words) -> Result<Name, LineFault>
+    ensures value { Tells result (name_at words.old) }
+    ensures rest { words.new ≡ rest_of words.old }
+{
+    name_in(alloc, words.field())
+}
+
+// The next word as the key to go on from, or none.
+fn after(alloc: Global, words: &mut Words) -> Result<Option<Name>, LineFault>
+    ensures value { Tells result (after_at words.old) }
+    ensures rest { words.new ≡ rest_of words.old }
+{
+    after_in(alloc, words.field())
+}
+
+// The sub-operation of this verb, whose fields are the next words.
+fn read_op_of(alloc: Global, verb: OpVerb, words: &mut Words) -> Result<SubOp, LineFault>
+    ensures { Takes result (op_of verb words.old) words.new }
+{
+    match verb {
+        OpVerb::Create => Ok(SubOp::Create),
+        OpVerb::WriteFull => {
+            let bytes = bytes(alloc, words)?;
+            Ok(SubOp::WriteFull { bytes })
+        }
+        OpVerb::Write => {
+            let off = number(words)?;
+            let bytes = bytes(alloc, words)?;
+            Ok(SubOp::Write { off, bytes })
+        }
+        OpVerb::Append => {
+            let bytes = bytes(alloc, words)?;
+            Ok(SubOp::Append { bytes })
+        }
+        OpVerb::Zero => {
+            let off = number(words)?;
+            let len = number(words)?;
+            Ok(SubOp::Zero { off, len })
+        }
+        OpVerb::Truncate => {
+            let size = number(words)?;
+            Ok(SubOp::Truncate { size })
+        }
+        OpVerb::Remove => Ok(SubOp::Remove),
+        OpVerb::SetXattr => {
+            let key = key(alloc, words)?;
+            let bytes = bytes(alloc, words)?;
+            Ok(SubOp::SetXattr { key, bytes })
+        }
+        OpVerb::RmXattr => {
+            let key = key(alloc, words)?;
+            Ok(SubOp::RmXattr { key })
+        }
+        OpVerb::OmapSet => {
+            let key = key(alloc, words)?;
+            let bytes = bytes(alloc, words)?;
+            Ok(SubOp::OmapSet { key, bytes })
+        }
+        OpVerb::OmapRm => {
+            let key = key(alloc, words)?;
+            Ok(SubOp::OmapRm { key })
+        }
+        OpVerb::OmapClear => Ok(SubOp::OmapClear),
+        OpVerb::AssertExists => Ok(SubOp::AssertExists),
+        OpVerb::AssertVer => {
+            let ver = number(words)?;
+            Ok(SubOp::AssertVer { ver })
+        }
+        OpVerb::CmpXattr => {
+            let key = key(alloc, words)?;
+            let bytes = bytes(alloc, words)?;
+            Ok(SubOp::CmpXattr { key, bytes })
+        }
+        OpVerb::Read => {
+            let off = number(words)?;
+            let len = number(words)?;
+            Ok(SubOp::Read { off, len })
+        }
+        OpVerb::Stat => Ok(SubOp::Stat),
+        OpVerb::GetXattr => {
+            let key = key(alloc, words)?;
+            Ok(SubOp::GetXattr { key })
+        }
+        OpVerb::ListXattrs => Ok(SubOp::ListXattrs),
+        OpVerb::OmapGet => {
+            let key = key(alloc, words)?;
+            Ok(SubOp::OmapGet { key })
+        }
+        OpVerb::OmapList => {
+            let after = after(alloc, words)?;
+            let max = number(words)?;
+            Ok(SubOp::OmapList { after, max })
+        }
+    }
 }

@@ -1,15 +1,14 @@
 //! What single words say: numbers, bytes and names.
-ghost use Rattle.std.specs.Prelude.{◌≡◌, ◌-◌, ◌^◌, ◌&&◌, ◌||◌, ◌==◌, ◌<◌, nat_le, true, min, length, slice_index};
+ghost use Rattle.std.specs.Prelude.{◌≡◌, ◌-◌, ◌^◌, ◌&&◌, ◌||◌, ◌==◌, ◌<◌, nat_le, true, min, length, slice_index, IfOk};
 ghost use Rattle.std.specs.List.{list_all};
 ghost use Rattle.std.specs.Result.{result_ok};
 ghost use Rattle.hex.specs.Hex.{decode_of};
 ghost use Rattle.std.specs.Char.{is_ascii_digit};
 ghost use Rattle.std.specs.Str.Parse.{digits_value};
-ghost use Rattle.script_lang.specs.Reading.{Tells, is_numeral, is_lower_digit, number_of, bytes_of, name_of};
+ghost use Rattle.script_lang.specs.Reading.{is_numeral, is_lower_digit, number_of, bytes_of, name_of, after_of};
 
-use crate::words::LineFault;
 use hex::FromHexError;
-use obj_model::{Bytes, Name};
+use obj_model::{Bytes, Name, NoMemory};
 use std::alloc::Global;
 
 /// The greatest number of a script: 2^62.
@@ -32,40 +31,55 @@ pub(crate) fn read_number(word: &[u8]) -> Option<u64>
 
 /// The bytes of the word.
 #[tactic(auto, unfolding(crate::specs::Reading::bytes_of))]
-pub(crate) fn read_bytes(alloc: Global, word: &[u8]) -> Result<Bytes, LineFault>
-    ensures { Tells result (bytes_of word.now) }
+pub(crate) fn read_bytes(alloc: Global, word: &[u8]) -> Result<Option<Bytes>, NoMemory>
+    ensures { IfOk result (λ bytes. bytes ≡ bytes_of word.now) }
 {
     if word == b"-".as_slice() {
-        return Ok(Bytes::from_vec(Vec::new(alloc)));
+        return Ok(Some(Bytes::from_vec(Vec::new(alloc))));
     }
     if !are_lower_digits(word) {
-        return Err(LineFault::Wrong);
+        return Ok(None);
     }
     decode(alloc, word)
 }
 
 /// The name that the word is.
 #[tactic(auto, unfolding(crate::specs::Reading::name_of))]
-pub(crate) fn read_name(alloc: Global, word: &[u8]) -> Result<Name, LineFault>
-    ensures { Tells result (name_of word.now) }
+pub(crate) fn read_name(alloc: Global, word: &[u8]) -> Result<Option<Name>, NoMemory>
+    ensures { IfOk result (λ name. name ≡ name_of word.now) }
 {
     let Ok(bytes) = Vec::from_slice(alloc, word) else {
-        return Err(LineFault::NoMemory);
+        return Err(NoMemory);
     };
     match Name::new(bytes) {
-        Ok(name) => Ok(name),
-        Err(_) => Err(LineFault::Wrong),
+        Ok(name) => Ok(Some(name)),
+        Err(_) => Ok(None),
+    }
+}
+
+/// The key to go on from that the word is, or none for a dash.
+#[tactic(auto, unfolding(crate::specs::Reading::after_of))]
+pub(crate) fn read_after(alloc: Global, word: &[u8]) -> Result<Option<Option<Name>>, NoMemory>
+    ensures { IfOk result (λ after. after ≡ after_of word.now) }
+{
+    if word == b"-".as_slice() {
+        return Ok(Some(None));
+    }
+    match read_name(alloc, word) {
+        Ok(Some(name)) => Ok(Some(Some(name))),
+        Ok(None) => Ok(None),
+        Err(fault) => Err(fault),
     }
 }
 
 // The bytes of digits in either case.
-fn decode(alloc: Global, digits: &[u8]) -> Result<Bytes, LineFault>
-    ensures { Tells result (result_ok (decode_of digits.now)) }
+fn decode(alloc: Global, digits: &[u8]) -> Result<Option<Bytes>, NoMemory>
+    ensures { IfOk result (λ bytes. bytes ≡ result_ok (decode_of digits.now)) }
 {
     match hex::decode(alloc, digits) {
-        Ok(bytes) => Ok(Bytes::from_vec(bytes)),
-        Err(FromHexError::OutOfMemory) => Err(LineFault::NoMemory),
-        Err(_) => Err(LineFault::Wrong),
+        Ok(bytes) => Ok(Some(Bytes::from_vec(bytes))),
+        Err(FromHexError::OutOfMemory) => Err(NoMemory),
+        Err(_) => Ok(None),
     }
 }
 

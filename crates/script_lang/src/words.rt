@@ -1,21 +1,13 @@
 //! The words of a line, taken one after another.
 //!
-//! Words stand between single spaces, so two spaces in a row, or one at an end, make an empty word. No word is copied.
+//! Words stand between single spaces, so two spaces in a row, or one at an end, make an empty word,
+//! which counts as missing. No word is copied.
 ghost use Rattle.std.specs.Prelude.{◌≡◌, ◌==◌, ◌<◌, ◌∷◌, length, IfSome};
 ghost use Rattle.std.specs.Option.{option_copied};
 ghost use Rattle.std.specs.List.{position};
-ghost use Rattle.script_lang.specs.Reading.{words_of, words_left, first_of, rest_of};
+ghost use Rattle.script_lang.specs.Reading.{words_of, words_left, first_of, rest_of, word_at, field_at, if_some, if_field};
 
 use std::marker::Model;
-
-/// Why words were not read.
-#[derive(Clone, Copy, Debug, PartialEq, Eq)]
-pub(crate) enum LineFault {
-    /// They are no spelling.
-    Wrong,
-    /// There was not enough memory.
-    NoMemory,
-}
 
 /// The words of a line that are left. They are seen as the list of them.
 #[derive(Drop)]
@@ -42,7 +34,7 @@ impl<'a> Words<'a> {
         Words { rest: Some(text) }
     }
 
-    /// Takes the first word that is left.
+    /// Takes the first word that is left, empty or not.
     pub(crate) fn next(&mut self) -> Option<&'a [u8]>
         ensures word { option_copied result ≡ first_of self.old }
         ensures rest { self.new ≡ rest_of self.old }
@@ -51,6 +43,44 @@ impl<'a> Words<'a> {
         let (word, rest) = cut(text);
         self.rest = rest;
         Some(word)
+    }
+
+    /// Takes the first word that is left; an empty one is missing.
+    pub(crate) fn word(&mut self) -> Option<&'a [u8]>
+        ensures word { option_copied result ≡ word_at self.old }
+        ensures rest { self.new ≡ rest_of self.old }
+    {
+        match self.next() {
+            Some(word) => if_some(word),
+            None => None,
+        }
+    }
+
+    /// Takes the first word that is left as a field of a sub-operation, which a semicolon ends.
+    pub(crate) fn field(&mut self) -> Option<&'a [u8]>
+        ensures word { option_copied result ≡ field_at self.old }
+        ensures rest { self.new ≡ rest_of self.old }
+    {
+        match self.next() {
+            Some(word) => if_field(word),
+            None => None,
+        }
+    }
+}
+
+fn if_some(word: &[u8]) -> Option<&[u8]>
+    ensures { option_copied result ≡ if_some word.now }
+{
+    if word.is_empty() { None } else { Some(word) }
+}
+
+fn if_field(word: &[u8]) -> Option<&[u8]>
+    ensures { option_copied result ≡ if_field word.now }
+{
+    if word == b";".as_slice() {
+        None
+    } else {
+        if_some(word)
     }
 }
 

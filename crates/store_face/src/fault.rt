@@ -16,7 +16,8 @@ pub enum StoreFault {
     NoSpace { used: u64, need: u64, limit: u64 },
     /// A number that only rises has reached this limit, 2^62. Nothing changed.
     Worn { limit: u64 },
-    /// There was not enough memory. Nothing changed, but that a store which was being opened is not live.
+    /// There was not enough memory. Nothing changed, but that a store which was being opened is not
+    /// live.
     NoMemory,
 }
 

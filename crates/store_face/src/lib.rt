@@ -1,4 +1,5 @@
-//! The one face of a pool's store: a finite map on a disk, whose changes are whole or not there after any stop.
+//! The one face of a pool's store: a finite map on a disk, whose changes are whole or not there
+//! after any stop.
 //!
 //! All layers above know a store by these clauses alone.
 #![tactic(auto)]

@@ -7,7 +7,7 @@ use Rattle.store_face.specs.Calls.{Committed}
 use Rattle.store_face.specs.declared.fault.StoreFault.{StoreFault}
 use Rattle.store_face.specs.declared.fault.StoreFault.TheVariants.{Disk, BadImage, NoSpace, Worn, NoMemory}
 use Rattle.tier_tool.specs.Bases.{GoesOn}
-use Rattle.tier_tool.proofs.Views.{grown_none}
+use Rattle.tier_outside.proofs.Moments.{grown_none}
 
 -- no moment came
 pub stood_still : (old new : StoreView) → new.moments ≡ old.moments → GoesOn old new
@@ -19,9 +19,9 @@ log_stood_still old new same = stood_still (store_of old) (store_of new) (ap (λ
 
 -- a commit
 pub committed_goes_on : (changes : List Change) (old new : StoreView) (result : Result (Unit {0}) StoreFault) → Committed changes old new result → GoesOn old new
-committed_goes_on changes old new (Ok done) made = record { more = made.0.more; grew = made.0.grew }
-committed_goes_on changes old new (Err Disk) made = record { more = made.0.more; grew = made.0.grew }
+committed_goes_on changes old new (Ok done) made = record { more = made.between.more; grew = made.between.grew }
+committed_goes_on changes old new (Err Disk) made = record { more = made.between.more; grew = made.between.grew }
 committed_goes_on changes old new (Err (BadImage at)) made = absurd made
-committed_goes_on changes old new (Err (NoSpace used need limit)) made = stood_still old new made.0.moments
-committed_goes_on changes old new (Err (Worn limit)) made = stood_still old new made.0.moments
+committed_goes_on changes old new (Err (NoSpace used need limit)) made = stood_still old new made.1.moments
+committed_goes_on changes old new (Err (Worn limit)) made = stood_still old new made.3.moments
 committed_goes_on changes old new (Err NoMemory) made = stood_still old new made.moments

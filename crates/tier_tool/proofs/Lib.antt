@@ -9,5 +9,6 @@ pub mod Pools
 pub mod Rooms
 pub mod Runs
 pub mod Said
+pub mod Tasks
 pub mod Told
 pub mod Views

@@ -1,9 +1,9 @@
 -- The answers to lines in two parts, and the store that lines leave.
 use Rattle.std.proofs.Common.{◌≡◌, List, [], ◌∷◌, ◌++◌, refl, ap, ◌∙◌}
 use Rattle.obj_ops.specs.Stores.{replay}
-use Rattle.script_lang.specs.declared.line.Line.{Line}
-use Rattle.script_lang.specs.declared.line.Line.TheVariants.{Op, Get}
-use Rattle.script_lang.specs.declared.line.Numbered.{Numbered}
+use Rattle.tier_tool.specs.declared.task.Task.{Task}
+use Rattle.tier_tool.specs.declared.task.Task.TheVariants.{Op, Get}
+use Rattle.tier_tool.specs.declared.task.Numbered.{Numbered}
 use Rattle.tier_tool.specs.Laws.{LaterLinesChangeNothing, RequestsMakeTheStore, behind, requests, with_request}
 use Rattle.tier_tool.specs.Plain.{Plain, after, answered, answers, begun}
 
@@ -14,7 +14,7 @@ answers-append (n ∷ before) others p = ap (λ rest. answered p n ∷ rest) (an
 pub later_lines : (before others : List Numbered) → LaterLinesChangeNothing before others
 later_lines before others store = answers-append before others (begun store)
 
-replay_line : (line : Line) (lines : List Numbered) (p : Plain) → replay (after p line).store (requests lines) ≡ replay p.store (with_request line (requests lines))
+replay_line : (line : Task) (lines : List Numbered) (p : Plain) → replay (after p line).store (requests lines) ≡ replay p.store (with_request line (requests lines))
 replay_line (Op req) lines p = refl
 replay_line (Get client name vector) lines p = refl
 

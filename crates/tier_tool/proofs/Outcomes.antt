@@ -14,10 +14,11 @@ use Rattle.obj_ops.specs.Acts.{act, look}
 use Rattle.obj_ops.specs.Stores.{Store, state_of, store_after}
 use Rattle.obj_ops.specs.declared.request.Acted.{Acted}
 use Rattle.obj_ops.specs.declared.request.Acted.TheVariants.{Fresh}
-use Rattle.script_lang.specs.declared.line.Line.{Line}
-use Rattle.script_lang.specs.declared.line.Line.TheVariants.{Op, Get}
+use Rattle.tier_tool.specs.declared.task.Task.{Task}
+use Rattle.tier_tool.specs.declared.task.Task.TheVariants.{Op, Get}
 use Rattle.store_face.specs.Tables.{Table}
-use Rattle.store_face.specs.Views.{StoreView, Sides, last, Now, Holds}
+use Rattle.store_face.specs.Views.{StoreView, CrashMaps, Now, Holds, no_map}
+use Rattle.tier_outside.specs.Moments.{last}
 use Rattle.store_face.specs.Calls.{Stays, Got}
 use Rattle.tier_tool.specs.Answers.{of_request, of_reading, replied}
 use Rattle.tier_tool.specs.Bases.{state_key, StandsFor, IsUnreadable, SameUnreadable, name_of, IsFresh, ActsOn, IsAnswered, BeforeOrAfter, InDoubt, LineEnds}
@@ -27,7 +28,7 @@ use Rattle.tier_tool.specs.declared.answer.Answer.{Answer}
 use Rattle.tier_tool.specs.declared.base.LineFault.{LineFault}
 use Rattle.tier_tool.specs.declared.base.LineFault.TheVariants as fault
 use Rattle.tier_tool.proofs.Bases.{has_readable, has_state, stands_put, unreadable_put}
-use Rattle.tier_tool.proofs.Pools.{At, fails_later, now_both, now_same, now_weaker, stays_twice}
+use Rattle.tier_tool.proofs.Pools.{At, fails_later, now_two, now_same, now_weaker, stays_twice}
 
 -- ---- a state that was looked up
 
@@ -39,19 +40,19 @@ unknown_lawful = record { counted = record { accepted = omega arith; acted = ome
 pub found_none : (name key : List ℕ) (value : Option (List ℕ)) (s : NameState) (old new : StoreView) → key ≡ state_key name → value ≡ None → s ≡ unknown → Got key old new (Ok value) → Found name old new (Ok s)
 found_none name key value s old new e none is got = (
   subst IsState (sym is) unknown_lawful,
-  now_weaker old.moments (λ was. value ≡ fin.get was.before key) (λ was. Has name s was.before)
-      (λ was there. subst (λ (o : Option (List ℕ)). IsStateOf o s) (sym none ∙ there ∙ ap (λ (k : List ℕ). fin.get was.before k) e) is) got.1,
+  now_weaker old.moments (λ was. value ≡ fin.get was.before.table key) (λ was. Has name s was.before.table)
+      (λ was there. subst (λ (o : Option (List ℕ)). IsStateOf o s) (sym none ∙ there ∙ ap (λ (k : List ℕ). fin.get was.before.table k) e) is) got.1,
   got.0,
 )
 
 -- ---- nothing changed
 
-now_itself : (m n : Option (List Sides)) → n ≡ m → At m (λ was. At n (λ s. s ≡ was))
+now_itself : (m n : Option (List CrashMaps)) → n ≡ m → At m (λ was. At n (λ s. s ≡ was))
 now_itself None n e = tt
-now_itself (Some ss) n e = now_same (Some ss) n (λ s. s ≡ last ss) (sym e) refl
+now_itself (Some ss) n e = now_same (Some ss) n (λ s. s ≡ last no_map ss) (sym e) refl
 
 -- what the plain store answers to a line that changes nothing, where the name has this state
-abbrev pub Unchanged : Line → NameState → Answer → Type 0
+abbrev pub Unchanged : Task → NameState → Answer → Type 0
 Unchanged line s a = (p : Plain) → s ≡ state_of p.store (name_of line) → (a ≡ answer p line) × (after p line ≡ p)
 
 same_unreadable : (t u : Table) → u ≡ t → SameUnreadable t u
@@ -63,19 +64,19 @@ no_act p q e = let same : q.acts ≡ p.acts = ap (λ (w : Plain). w.acts) e in o
 still_stands : (t u : Table) (p q : Plain) → StandsFor t p.store → u ≡ t → q ≡ p → StandsFor u q.store
 still_stands t u p q stands e f = subst (λ (w : Plain). StandsFor u w.store) (sym f) (subst (λ (w : Table). StandsFor w p.store) (sym e) stands)
 
-answered_same : (line : Line) (t : Table) (s : NameState) (a : Answer) (new : StoreView) → Has (name_of line) s t → Holds new (λ u. u ≡ t) → Unchanged line s a → IsAnswered line t new a false
+answered_same : (line : Task) (t : Table) (s : NameState) (a : Answer) (new : StoreView) → Has (name_of line) s t → Holds new (λ u. u ≡ t) → Unchanged line s a → IsAnswered line t new a false
 answered_same line t s a new has same plainly = record {
   readable = has_readable t (name_of line) s has;
-  unreadable = now_weaker new.moments (λ n. n.before ≡ t) (λ n. SameUnreadable t n.before) (λ n. same_unreadable t n.before) same;
+  unreadable = now_weaker new.moments (λ n. n.before.table ≡ t) (λ n. SameUnreadable t n.before.table) (λ n. same_unreadable t n.before.table) same;
   plainly = λ p stands.
       let q = plainly p (has_state t p.store (name_of line) s has stands) in
-      (q.0, no_act p (after p line) q.1, now_weaker new.moments (λ n. n.before ≡ t) (λ n. StandsFor n.before (after p line).store) (λ n e. still_stands t n.before p (after p line) stands e q.1) same);
+      (q.0, no_act p (after p line) q.1, now_weaker new.moments (λ n. n.before.table ≡ t) (λ n. StandsFor n.before.table (after p line).store) (λ n e. still_stands t n.before.table p (after p line) stands e q.1) same);
 }
 
-ends_same : (line : Line) (s : NameState) (a : Answer) (old new : StoreView) → Holds old (Has (name_of line) s) → Stays old new → old.live ≡ true → Unchanged line s a → LineEnds line old new (Ok (a, false))
+ends_same : (line : Task) (s : NameState) (a : Answer) (old new : StoreView) → Holds old (Has (name_of line) s) → Stays old new → old.live ≡ true → Unchanged line s a → LineEnds line old new (Ok (a, false))
 ends_same line s a old new has stays live plainly = (
-  now_both old.moments (λ was. Has (name_of line) s was.before) (λ was. At new.moments (λ n. n ≡ was)) (λ was. IsAnswered line was.before new a false)
-      (λ was h same. answered_same line was.before s a new h (now_weaker new.moments (λ n. n ≡ was) (λ n. n.before ≡ was.before) (λ n. ap (λ (w : Sides). w.before)) same) plainly)
+  now_two old.moments (λ was. Has (name_of line) s was.before.table) (λ was. At new.moments (λ n. n ≡ was)) (λ was. IsAnswered line was.before.table new a false)
+      (λ was h same. answered_same line was.before.table s a new h (now_weaker new.moments (λ n. n ≡ was) (λ n. n.before.table ≡ was.before.table) (λ n. ap (λ (w : CrashMaps). w.before.table)) same) plainly)
       has (now_itself old.moments new.moments stays.moments),
   stays.live ∙ live,
   stays.later,
@@ -111,12 +112,12 @@ answered_put : (req : Req) (s next : NameState) (reply : Reply) (a : Answer) (t 
     → Has req.name s t → Holds new (IsWith req.name next t) → IsAnswered (Op req) t new a true
 answered_put req s next reply a t new is told has put = record {
   readable = has_readable t req.name s has;
-  unreadable = now_weaker new.moments (λ n. IsWith req.name next t n.before) (λ n. SameUnreadable t n.before) (λ n. unreadable_put t n.before req.name next (has_readable t req.name s has)) put;
+  unreadable = now_weaker new.moments (λ n. IsWith req.name next t n.before.table) (λ n. SameUnreadable t n.before.table) (λ n. unreadable_put t n.before.table req.name next (has_readable t req.name s has)) put;
   plainly = λ p stands.
       let same = acts_so req s (Fresh next reply) t p.store is has stands in (
         told ∙ ap of_request (sym same),
         ap (acts_after p.acts) same,
-        now_weaker new.moments (λ n. IsWith req.name next t n.before) (λ n. StandsFor n.before (after p (Op req)).store) (λ n. after_put req s next reply t n.before p.store is has stands) put,
+        now_weaker new.moments (λ n. IsWith req.name next t n.before.table) (λ n. StandsFor n.before.table (after p (Op req)).store) (λ n. after_put req s next reply t n.before.table p.store is has stands) put,
       );
 }
 
@@ -124,8 +125,8 @@ answered_put req s next reply a t new is told has put = record {
 pub ends_acted : (req : Req) (s next : NameState) (reply : Reply) (a : Answer) (old mid new : StoreView) → act s req ≡ Fresh next reply → a ≡ replied reply false
     → Holds old (Has req.name s) → Stays old mid → WasPut req.name next mid new (Ok tt) → LineEnds (Op req) old new (Ok (a, true))
 ends_acted req s next reply a old mid new is told has stays put = (
-  now_both old.moments (λ was. Has req.name s was.before) (λ was. Holds new (IsWith req.name next was.before)) (λ was. IsAnswered (Op req) was.before new a true)
-      (λ was. answered_put req s next reply a was.before new is told) has (now_same mid.moments old.moments (λ was. Holds new (IsWith req.name next was.before)) stays.moments put.0),
+  now_two old.moments (λ was. Has req.name s was.before.table) (λ was. Holds new (IsWith req.name next was.before.table)) (λ was. IsAnswered (Op req) was.before.table new a true)
+      (λ was. answered_put req s next reply a was.before.table new is told) has (now_same mid.moments old.moments (λ was. Holds new (IsWith req.name next was.before.table)) stays.moments put.0),
   put.1,
   omega (arith, stays.later, put.2),
   tt,
@@ -140,8 +141,8 @@ given_back P (Err e) f h p = subst (λ (w : LineFault). P (Err w)) (sym h.1) p
 acting : (req : Req) (s next : NameState) (reply : Reply) (old : StoreView) → act s req ≡ Fresh next reply → Holds old (Has req.name s)
     → Holds old (λ t. (¬ IsUnreadable t req.name) × ((store : Store) → StandsFor t store → ActsOn store (Op req)))
 acting req s next reply old is has =
-    now_weaker old.moments (λ was. Has req.name s was.before) (λ was. (¬ IsUnreadable was.before req.name) × ((store : Store) → StandsFor was.before store → ActsOn store (Op req)))
-    (λ was h. (has_readable was.before req.name s h, λ store stands. subst IsFresh (sym (acts_so req s (Fresh next reply) was.before store is h stands)) tt)) has
+    now_weaker old.moments (λ was. Has req.name s was.before.table) (λ was. (¬ IsUnreadable was.before.table req.name) × ((store : Store) → StandsFor was.before.table store → ActsOn store (Op req)))
+    (λ was h. (has_readable was.before.table req.name s h, λ store stands. subst IsFresh (sym (acts_so req s (Fresh next reply) was.before.table store is h stands)) tt)) has
 
 one_side : (req : Req) (s next : NameState) (reply : Reply) (t u : Table) (p : Plain) → act s req ≡ Fresh next reply → Has req.name s t → StandsFor t p.store
     → (u ≡ t) ⊎ IsWith req.name next t u → BeforeOrAfter p (Op req) u
@@ -151,9 +152,9 @@ one_side req s next reply t u p is has stands (inr put) = inr (after_put req s n
 in_doubt_put : (req : Req) (s next : NameState) (reply : Reply) (old new : StoreView) → act s req ≡ Fresh next reply → Holds old (Has req.name s) → Holds old (λ t. Now new (IsTorn req.name next t))
     → Holds old (λ t. Now new (InDoubt (Op req) t))
 in_doubt_put req s next reply old new is has torn =
-    now_both old.moments (λ was. Has req.name s was.before) (λ was. Now new (IsTorn req.name next was.before)) (λ was. Now new (InDoubt (Op req) was.before))
-    (λ was h. now_weaker new.moments (IsTorn req.name next was.before) (InDoubt (Op req) was.before)
-    (λ n torn p stands. (one_side req s next reply was.before n.before p is h stands torn.before, one_side req s next reply was.before n.after p is h stands torn.after))) has torn
+    now_two old.moments (λ was. Has req.name s was.before.table) (λ was. Now new (IsTorn req.name next was.before.table)) (λ was. Now new (InDoubt (Op req) was.before.table))
+    (λ was h. now_weaker new.moments (IsTorn req.name next was.before.table) (InDoubt (Op req) was.before.table)
+    (λ n torn p stands. (one_side req s next reply was.before.table n.before.table p is h stands torn.before, one_side req s next reply was.before.table n.after.table p is h stands torn.after))) has torn
 
 -- a request that acted, and whose state was not put
 pub ends_not_put : (req : Req) (s next : NameState) (reply : Reply) (old mid new : StoreView) (f : LineFault) → act s req ≡ Fresh next reply
@@ -161,5 +162,5 @@ pub ends_not_put : (req : Req) (s next : NameState) (reply : Reply) (old mid new
 ends_not_put req s next reply old mid new (fault.NoSpace used need limit) is has stays put = (acting req s next reply old is has, put.0, stays_twice old mid new stays put.1)
 ends_not_put req s next reply old mid new fault.BadRecord is has stays put = absurd put
 ends_not_put req s next reply old mid new fault.Disk is has stays put =
-    (in_doubt_put req s next reply old new is has (now_same mid.moments old.moments (λ was. Now new (IsTorn req.name next was.before)) stays.moments put.0), fails_later old mid new stays put.1)
+    (in_doubt_put req s next reply old new is has (now_same mid.moments old.moments (λ was. Now new (IsTorn req.name next was.before.table)) stays.moments put.0), fails_later old mid new stays put.1)
 ends_not_put req s next reply old mid new fault.NoMemory is has stays put = stays_twice old mid new stays put

@@ -1,28 +1,30 @@
 -- How a run on the base ends, from how it was opened, what was told, and how it was closed.
-use Rattle.tier_outside.specs.Moments.{told}
-use Rattle.std.proofs.Common.{◌≡◌, inl, inr, ◌≤◌, ℕ, List, [], ◌∷◌, ◌++◌, Option, Some, None, refl, sym, ap, subst, ◌∙◌}
+use Rattle.tier_outside.specs.Moments as moments
+use Rattle.std.proofs.Common.{◌≡◌, inl, inr, ◌≤◌, ℕ, List, [], ◌∷◌, ◌++◌, map, Option, Some, None, refl, sym, ap, subst, ◌∙◌}
 use Rattle.obj_model.specs.declared.change.Pool.TheVariants.{Base}
 use Rattle.obj_ops.specs.Stores.{Store}
-use Rattle.script_lang.specs.declared.line.Numbered.{Numbered}
+use Rattle.tier_tool.specs.declared.task.Numbered.{Numbered}
 use Rattle.script_lang.specs.Scripts.{IsScript}
 use Rattle.tier_outside.specs.Causes.{Rose}
 use Rattle.tier_outside.specs.Disk.{DiskMoment, EachImage, IsImage}
 use Rattle.tier_outside.specs.DiskMoments.{Now, last, grown, Leaves, SomeImage}
 use Rattle.tier_outside.proofs.DiskMoments.{now_since, now_weaker}
 use Rattle.store_face.specs.Tables.{Table}
-use Rattle.store_face.specs.Views.{Sides, one_map}
+use Rattle.store_face.specs.Views.{CrashMaps, Durable, alone, no_map}
 use Rattle.store_face.specs.Views as store
-use Rattle.log_image.specs.Images.{HoldsMap, Log}
+use Rattle.log_image.specs.Images.{HoldsMap}
 use Rattle.log_store.specs.Commits.{SameStore}
 use Rattle.log_store.specs.Opens.{KeepsRefused, Opened, OpeningStops, OpensAs, Refused}
-use Rattle.log_store.specs.Views.{HoldsSide, HoldsSides, LogView, store_of}
+use Rattle.log_store.specs.Views.{EachHolds, HoldsEither, LogView, store_of}
 use Rattle.log_store.specs.declared.fault.AttachFault.{AttachFault}
 use Rattle.log_store.specs.declared.fault.AttachFault.TheVariants as fault
 use Rattle.tier_tool.specs.Bases.{GoesOn, StandsFor}
 use Rattle.tier_tool.specs.Lines.{EndsAs, Ending, IsLeft, Said, SaysFrom, Standing, TellsLines, standing}
 use Rattle.tier_tool.specs.Lines.Ending.{Whole, Unheard, Stopped}
 use Rattle.tier_tool.specs.Main.{BackLeaves, Carries, IsReadWhole, RunEnds, SaidFrom}
-use Rattle.tier_tool.specs.Telling.{RunsOn, TellsUnopened}
+use Rattle.tier_tool.specs.Tasks.{as_line}
+use Rattle.script_lang.specs.declared.line.Numbered as lang
+use Rattle.tier_tool.specs.Telling.{CarriesTasks, RunsOn, TellsUnopened}
 use Rattle.tier_tool.specs.Texts.{bad_image_text, wrong_pair_text}
 use Rattle.tier_tool.proofs.Told.{rose_later}
 use Rattle.tier_tool.proofs.Views.{now_same}
@@ -82,38 +84,38 @@ ends_weaker disk_rose whole_disk sink_rose said left (Stopped n) put status weak
 }
 
 -- whatever a stop leaves of the disk holds a map that was left
-kept_now : (base : DiskMoments) (s : Sides) (q : Standing) (ending : Ending) → HoldsSides Base 257 base s → IsLeft q ending s.before → IsLeft q ending s.after
+kept_now : (base : DiskMoments) (s : CrashMaps) (q : Standing) (ending : Ending) → EachHolds Base 257 base s → IsLeft q ending s.before.table → IsLeft q ending s.after.table
     → Now base (λ e. EachImage e (λ image. (u : Table) × HoldsMap Base 257 image u × IsLeft q ending u))
 kept_now base s q ending holds before after_ =
-    now_weaker base (λ e. EachImage e (HoldsSide Base 257 s)) (λ e. EachImage e (λ image. (u : Table) × HoldsMap Base 257 image u × IsLeft q ending u))
+    now_weaker base (λ e. EachImage e (HoldsEither Base 257 s)) (λ e. EachImage e (λ image. (u : Table) × HoldsMap Base 257 image u × IsLeft q ending u))
     (λ e each image is. one image (each image is)) holds
   where
-    one : (image : List ℕ) → HoldsSide Base 257 s image → (u : Table) × HoldsMap Base 257 image u × IsLeft q ending u
-    one image (inl h) = (s.before, h, before)
-    one image (inr h) = (s.after, h, after_)
+    one : (image : List ℕ) → HoldsEither Base 257 s image → (u : Table) × HoldsMap Base 257 image u × IsLeft q ending u
+    one image (inl h) = (s.before.table, (s.before.used, h), before)
+    one image (inr h) = (s.after.table, (s.after.used, h), after_)
 
-kept_said : (t : Table) (room : ℕ) (from : Standing) (lines : List Numbered) (said : List Said) (left : List Numbered) (ending : Ending) (w : LogView) (base : DiskMoments) (ss more : List Sides)
-    → w.moments ≡ store.grown (Some ss) more → store.Now (store_of w) (HoldsSides Base 257 base) → SaysFrom t room from lines said left ending (store_of w)
+kept_said : (t : Table) (room : ℕ) (from : Standing) (lines : List Numbered) (said : List Said) (left : List Numbered) (ending : Ending) (w : LogView) (base : DiskMoments) (ss more : List CrashMaps)
+    → w.moments ≡ moments.grown (Some ss) more → store.Now (store_of w) (EachHolds Base 257 base) → SaysFrom t room from lines said left ending (store_of w)
     → SaidFrom t room from lines said left ending base
 kept_said t room from lines said left ending w base ss more grew holds says =
     let there = Some (ss ++ more) in
     record {
       now = says.now;
       says = says.says;
-      kept = kept_now base (store.last (ss ++ more)) says.now ending (now_same w.moments there (HoldsSides Base 257 base) grew holds)
-          (now_same w.moments there (λ s. IsLeft says.now ending s.before) grew says.before) (now_same w.moments there (λ s. IsLeft says.now ending s.after) grew says.after_);
+      kept = kept_now base (moments.last no_map (ss ++ more)) says.now ending (now_same w.moments there (EachHolds Base 257 base) grew holds)
+          (now_same w.moments there (λ s. IsLeft says.now ending s.before.table) grew says.before) (now_same w.moments there (λ s. IsLeft says.now ending s.after.table) grew says.after_);
     }
 
 -- the store that was closed is of the pool and pair that was opened
-same_sides : (room : ℕ) (old base : DiskMoments) (v w : LogView) → Opened Base 257 room old v → SameStore v w → store.Now (store_of w) (HoldsSides w.role w.pair base)
-    → store.Now (store_of w) (HoldsSides Base 257 base)
+same_sides : (room : ℕ) (old base : DiskMoments) (v w : LogView) → Opened Base 257 room old v → SameStore v w → store.Now (store_of w) (EachHolds w.role w.pair base)
+    → store.Now (store_of w) (EachHolds Base 257 base)
 same_sides room old base v w opened same holds =
     let role : w.role ≡ Base = same.role ∙ opened.role_is in
     let pair : w.pair ≡ 257 = same.pair ∙ opened.pair_is in
-    subst (λ k. store.Now (store_of w) (HoldsSides Base k base)) pair (subst (λ r. store.Now (store_of w) (HoldsSides r w.pair base)) role holds)
+    subst (λ k. store.Now (store_of w) (EachHolds Base k base)) pair (subst (λ r. store.Now (store_of w) (EachHolds r w.pair base)) role holds)
 
 pub opened_runs : (lines : List Numbered) (room : ℕ) (old base : DiskMoments) (v w : LogView) (disk_rose whole_disk sink_rose : Type 0) (put : List ℕ) (status : ℕ) → (disk_rose → whole_disk)
-    → Opened Base 257 room old v → Leaves old v.disk (OpeningStops Base 257) → SameStore v w → GoesOn (store_of v) (store_of w) → store.Now (store_of w) (HoldsSides w.role w.pair base)
+    → Opened Base 257 room old v → Leaves old v.disk (OpeningStops Base 257) → SameStore v w → GoesOn (store_of v) (store_of w) → store.Now (store_of w) (EachHolds w.role w.pair base)
     → TellsLines lines v w disk_rose sink_rose put status → RunsOn lines room whole_disk sink_rose old base put status
 opened_runs lines room old base v w disk_rose whole_disk sink_rose put status weaker opened stops same goes holds tells =
     inr (inr (inr (record {
@@ -128,14 +130,14 @@ opened_runs lines room old base v w disk_rose whole_disk sink_rose put status we
     Says limit t = (st : Store) → StandsFor t st → SaysFrom t limit (standing st v.used) lines tells.said tells.left tells.ending (store_of w)
 
     from : (a : DiskMoments) → v.disk ≡ grown a stops.more → SomeImage a (OpensAs Base 257 (record { table = opened.table; used = v.used }))
-        → SomeImage a (λ image. (log : Log) × OpensAs Base 257 log image
+        → SomeImage a (λ image. (log : Durable) × OpensAs Base 257 log image
         × ((st : Store) → StandsFor log.table st → SaidFrom log.table room (standing st log.used) lines tells.said tells.left tells.ending base))
     from None grew left = tt
     from (Some ds) grew left =
-        let one = one_map opened.table ∷ [] in
-        let tells_of : v.moments ≡ Some one = opened.told_is ∙ ap (λ x. told x one) grew in
-        let says = subst (λ limit. Says limit opened.table) opened.room_is (now_same v.moments (Some one) (λ (s : Sides). Says v.room s.before) tells_of tells.from) in
-        let later : w.moments ≡ store.grown (Some one) goes.more = goes.grew ∙ ap (λ m. store.grown m goes.more) tells_of in (
+        let one = alone (record { table = opened.table; used = v.used }) ∷ [] in
+        let tells_of : v.moments ≡ Some one = opened.told_is ∙ ap (λ x. moments.told x one) grew in
+        let says = subst (λ limit. Says limit opened.table) opened.room_is (now_same v.moments (Some one) (λ (s : CrashMaps). Says v.room s.before.table) tells_of tells.from) in
+        let later : w.moments ≡ moments.grown (Some one) goes.more = goes.grew ∙ ap (λ m. moments.grown m goes.more) tells_of in (
           left.0,
           left.1,
           (
@@ -152,13 +154,25 @@ rose_as a b c d h same rose = subst (Rose a) (sym same) (rose_later a b c h rose
 
 -- ---- a script
 
+-- what tasks of a script do is what the script does
+tasks_carry : (script : List ℕ) (tasks : List Numbered) (room : ℕ) (disk_rose sink_rose : Type 0) (old new : DiskMoments) (put : List ℕ) (status : ℕ)
+    → IsScript script (map as_line tasks) → RunsOn tasks room disk_rose sink_rose old new put status
+    → Carries script room disk_rose sink_rose old new put status
+tasks_carry script tasks room disk_rose sink_rose old new put status is (inl lacks) = inl lacks
+tasks_carry script tasks room disk_rose sink_rose old new put status is (inr (inl failed)) = inr (inr (inr (inl failed)))
+tasks_carry script tasks room disk_rose sink_rose old new put status is (inr (inr (inl refuses))) = inr (inr (inr (inr (inl refuses))))
+tasks_carry script tasks room disk_rose sink_rose old new put status is (inr (inr (inr carries))) =
+    inr (inr (inr (inr (inr (record { lines = tasks; is_script = is; carried = carries })))))
+
 -- what lines of a script do is what the script does
-pub script_carries : (script : List ℕ) (lines : List Numbered) (room : ℕ) (disk_rose sink_rose : Type 0) (old new : DiskMoments) (put : List ℕ) (status : ℕ) → IsScript script lines
-    → RunsOn lines room disk_rose sink_rose old new put status → Carries script room disk_rose sink_rose old new put status
+pub script_carries : (script : List ℕ) (lines : List lang.Numbered) (room : ℕ) (disk_rose sink_rose : Type 0) (old new : DiskMoments) (put : List ℕ) (status : ℕ)
+    → IsScript script lines → CarriesTasks lines room disk_rose sink_rose old new put status
+    → Carries script room disk_rose sink_rose old new put status
 script_carries script lines room disk_rose sink_rose old new put status is (inl lacks) = inl lacks
-script_carries script lines room disk_rose sink_rose old new put status is (inr (inl failed)) = inr (inr (inl failed))
-script_carries script lines room disk_rose sink_rose old new put status is (inr (inr (inl refuses))) = inr (inr (inr (inl refuses)))
-script_carries script lines room disk_rose sink_rose old new put status is (inr (inr (inr carries))) = inr (inr (inr (inr (record { lines = lines; is_script = is; carried = carries }))))
+script_carries script lines room disk_rose sink_rose old new put status is (inr (inl u)) =
+    inr (inr (inl (record { lines = lines; is_script = is; number = u.0; unbuilt = u.1; base_same = u.2; told = u.3 })))
+script_carries script lines room disk_rose sink_rose old new put status is (inr (inr runs)) =
+    tasks_carry script runs.0 room disk_rose sink_rose old new put status (subst (IsScript script) runs.1 is) runs.2
 
 -- a disk that was not touched
 pub untouched : (a : DiskMoments) → BackLeaves a a (OpeningStops Base 257)

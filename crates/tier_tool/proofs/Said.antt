@@ -4,11 +4,12 @@ use Rattle.std.proofs.lemmas.List.{append-nil, take-append-drop}
 use Rattle.std.specs.List.{concat}
 use Rattle.obj_model.specs.declared.memory.NoMemory.{NoMemory}
 use Rattle.obj_ops.specs.Stores.{Store}
-use Rattle.script_lang.specs.declared.line.Numbered.{Numbered}
+use Rattle.tier_tool.specs.declared.task.Numbered.{Numbered}
 use Rattle.tier_outside.specs.Causes.{Rose}
-use Rattle.script_lang.specs.declared.line.Line.{Line}
+use Rattle.tier_tool.specs.declared.task.Task.{Task}
 use Rattle.store_face.specs.Tables.{Table}
-use Rattle.store_face.specs.Views.{StoreView, Sides, Sound, Now, Holds, grown, last}
+use Rattle.store_face.specs.Views.{StoreView, CrashMaps, Sound, Now, Holds, no_map}
+use Rattle.tier_outside.specs.Moments.{grown, last}
 use Rattle.store_face.specs.Calls.{Stays}
 use Rattle.tier_tool.specs.Bases.{GoesOn, InDoubt, IsAnswered, IsUnreadable, LineEnds, SameUnreadable, StandsFor, ActsOn, acts_more, name_of}
 use Rattle.log_store.specs.Commits.{SameStore}
@@ -26,35 +27,35 @@ use Rattle.tier_tool.specs.declared.base.LineFault.{LineFault}
 use Rattle.tier_tool.specs.declared.base.LineFault.TheVariants as fault
 use Rattle.tier_tool.specs.declared.saying.Unsaid.{Unsaid}
 use Rattle.tier_tool.specs.declared.saying.Unsaid.TheVariants as unsaid
-use Rattle.tier_tool.proofs.Views.{At, goes_further, nothing_came, now_same, now_then, now_two, now_weaker}
+use Rattle.tier_tool.proofs.Views.{At, goes_further, nothing_came, now_same, now_then, now_two, now_weaker, one_table}
 
 -- ---- one line
 
 abbrev Ended : Type 0
 Ended = Result (Answer × Bool) LineFault
 
-nothing_in_doubt : (n : Numbered) (a b : Option (List Sides)) → b ≡ a → At b (λ s. s.before ≡ s.after) → At a (λ was. At b (InDoubt n.line was.before))
+nothing_in_doubt : (n : Numbered) (a b : Option (List CrashMaps)) → b ≡ a → At b (λ s. s.before.table ≡ s.after.table) → At a (λ was. At b (InDoubt n.line was.before.table))
 nothing_in_doubt n None b same one = tt
 nothing_in_doubt n (Some ss) b same one =
-    let there = now_same b (Some ss) (λ (s : Sides). s.before ≡ s.after) same one in
-    now_same (Some ss) b (InDoubt n.line (last ss).before) (sym same)
+    let there = now_same b (Some ss) (λ (s : CrashMaps). s.before.table ≡ s.after.table) same one in
+    now_same (Some ss) b (InDoubt n.line (last no_map ss).before.table) (sym same)
     (λ p stands. (inl stands, inl (subst (λ u. StandsFor u p.store) there stands)))
 
-answered_in_doubt : (line : Line) (t : Table) (b : Option (List Sides)) → At b (λ s. s.before ≡ s.after)
-    → ((p : Plain) → StandsFor t p.store → At b (λ s. StandsFor s.before (after p line).store)) → At b (InDoubt line t)
+answered_in_doubt : (line : Task) (t : Table) (b : Option (List CrashMaps)) → At b (λ s. s.before.table ≡ s.after.table)
+    → ((p : Plain) → StandsFor t p.store → At b (λ s. StandsFor s.before.table (after p line).store)) → At b (InDoubt line t)
 answered_in_doubt line t None one stands = tt
 answered_in_doubt line t (Some ss) one stands =
     λ p was. (inr (stands p was), inr (subst (λ u. StandsFor u (after p line).store) one (stands p was)))
 
 -- nothing changed, so nothing is in doubt
 stays_in_doubt : (n : Numbered) (old new : StoreView) → Sound new → old.live ≡ true → Stays old new → LeavesInDoubt n old new
-stays_in_doubt n old new sound live stays = nothing_in_doubt n old.moments new.moments stays.moments (sound (stays.live ∙ live))
+stays_in_doubt n old new sound live stays = nothing_in_doubt n old.moments new.moments stays.moments (one_table new (sound (stays.live ∙ live)))
 
 -- however a line ends, a stop leaves what was there before it, or that with its act
 ends_in_doubt : (n : Numbered) (ended : Ended) (old new : StoreView) → Sound new → old.live ≡ true → LineEnds n.line old new ended → LeavesInDoubt n old new
 ends_in_doubt n (Ok done) old new sound live h =
-    now_weaker old.moments (λ s. IsAnswered n.line s.before new done.0 done.1) (λ s. Now new (InDoubt n.line s.before))
-    (λ s is. answered_in_doubt n.line s.before new.moments (sound h.1) (λ p stands. (is.plainly p stands).2)) h.0
+    now_weaker old.moments (λ s. IsAnswered n.line s.before.table new done.0 done.1) (λ s. Now new (InDoubt n.line s.before.table))
+    (λ s is. answered_in_doubt n.line s.before.table new.moments (one_table new (sound h.1)) (λ p stands. (is.plainly p stands).2)) h.0
 ends_in_doubt n (Err (fault.NoSpace used need limit)) old new sound live h = stays_in_doubt n old new sound live h.2
 ends_in_doubt n (Err fault.BadRecord) old new sound live h = stays_in_doubt n old new sound live h.1
 ends_in_doubt n (Err fault.Disk) old new sound live h = h.0
@@ -65,11 +66,11 @@ given_is : (n : Numbered) (a : Answer) (acted : Bool) (before acts : ℕ) (old n
     → LineUses n.line old new (Ok (a, acted)) → IsSaid n (Given (record { number = n.number; answer = a; place = acts })) before acts old new
 given_is n a acted before acts old new counted h uses = record {
   live = h.1;
-  unreadable = now_weaker old.moments (λ s. IsAnswered n.line s.before (store_of new) a acted) (λ s. Holds (store_of new) (SameUnreadable s.before)) (λ s is. is.unreadable) h.0;
-  from = now_two old.moments (λ s. IsAnswered n.line s.before (store_of new) a acted) (λ s. (store : Store) → StandsFor s.before store → Took store)
-      (λ s. (p : Standing) → p.plain.acts ≡ before → p.used ≡ old.used → StandsFor s.before p.plain.store
-      → SaysLine s.before old.room p n (Given (record { number = n.number; answer = a; place = acts })) acts new)
-      (λ s is took p was taken stands. plainly s.before is p was taken stands (took p.plain.store stands)) h.0 uses;
+  unreadable = now_weaker old.moments (λ s. IsAnswered n.line s.before.table (store_of new) a acted) (λ s. Holds (store_of new) (SameUnreadable s.before.table)) (λ s is. is.unreadable) h.0;
+  from = now_two old.moments (λ s. IsAnswered n.line s.before.table (store_of new) a acted) (λ s. (store : Store) → StandsFor s.before.table store → Took store)
+      (λ s. (p : Standing) → p.plain.acts ≡ before → p.used ≡ old.used → StandsFor s.before.table p.plain.store
+      → SaysLine s.before.table old.room p n (Given (record { number = n.number; answer = a; place = acts })) acts new)
+      (λ s is took p was taken stands. plainly s.before.table is p was taken stands (took p.plain.store stands)) h.0 uses;
 }
   where
     Took : Store → Type 0
@@ -94,9 +95,9 @@ given_is n a acted before acts old new counted h uses = record {
           stands = h.2;
         }
 
-same_map : (a b : Option (List Sides)) (P : Table → Table → Type 0) → b ≡ a → ((t : Table) → P t t) → At a (λ was. At b (λ s. P was.before s.before))
+same_map : (a b : Option (List CrashMaps)) (P : Table → Table → Type 0) → b ≡ a → ((t : Table) → P t t) → At a (λ was. At b (λ s. P was.before.table s.before.table))
 same_map None b P same each = tt
-same_map (Some ss) b P same each = now_same (Some ss) b (λ s. P (last ss).before s.before) (sym same) (each (last ss).before)
+same_map (Some ss) b P same each = now_same (Some ss) b (λ s. P (last no_map ss).before.table s.before.table) (sym same) (each (last no_map ss).before.table)
 
 -- a line of which this is said changed nothing
 unchanged_is : (n : Numbered) (s : Said) (acts : ℕ) (old new : LogView) → old.live ≡ true → Stays (store_of old) (store_of new) → new.used ≡ old.used
@@ -107,8 +108,8 @@ unchanged_is n s acts old new live stays used says = record {
   from = from old.moments stays.moments says;
 }
   where
-    from : (a : Option (List Sides)) → new.moments ≡ a → At a (λ was. (p : Standing) → p.used ≡ old.used → StandsFor was.before p.plain.store → LineSays was.before old.room p n s p)
-        → At a (λ was. (p : Standing) → p.plain.acts ≡ acts → p.used ≡ old.used → StandsFor was.before p.plain.store → SaysLine was.before old.room p n s acts new)
+    from : (a : Option (List CrashMaps)) → new.moments ≡ a → At a (λ was. (p : Standing) → p.used ≡ old.used → StandsFor was.before.table p.plain.store → LineSays was.before.table old.room p n s p)
+        → At a (λ was. (p : Standing) → p.plain.acts ≡ acts → p.used ≡ old.used → StandsFor was.before.table p.plain.store → SaysLine was.before.table old.room p n s acts new)
     from None same says = tt
     from (Some ss) same says =
         λ p counted taken stands. record {
@@ -116,7 +117,7 @@ unchanged_is n s acts old new live stays used says = record {
           says = says p taken stands;
           counted = counted;
           taken = taken ∙ sym used;
-          stands = now_same (Some ss) new.moments (λ (u : Sides). StandsFor u.before p.plain.store) (sym same) stands;
+          stands = now_same (Some ss) new.moments (λ (u : CrashMaps). StandsFor u.before.table p.plain.store) (sym same) stands;
         }
 
 abbrev Refuses : Numbered → Table → Type 0
@@ -126,8 +127,8 @@ no_room_is : (n : Numbered) (used more limit acts : ℕ) (old new : LogView) →
     → LineUses n.line old new (Err (fault.NoSpace used more limit)) → IsSaid n (NoRoom n.number used more limit) acts acts old new
 no_room_is n used more limit acts old new live h uses =
     unchanged_is n (NoRoom n.number used more limit) acts old new live h.2 uses.3
-    (now_two old.moments (λ s. Refuses n s.before) (λ s. (store : Store) → StandsFor s.before store → more ≡ cost store n.line)
-    (λ s. (p : Standing) → p.used ≡ old.used → StandsFor s.before p.plain.store → LineSays s.before old.room p n (NoRoom n.number used more limit) p)
+    (now_two old.moments (λ s. Refuses n s.before.table) (λ s. (store : Store) → StandsFor s.before.table store → more ≡ cost store n.line)
+    (λ s. (p : Standing) → p.used ≡ old.used → StandsFor s.before.table p.plain.store → LineSays s.before.table old.room p n (NoRoom n.number used more limit) p)
     (λ s is costs p taken stands. (
       is.0,
       is.1 p.plain.store stands,
@@ -143,9 +144,9 @@ bad_record_is : (n : Numbered) (name : List ℕ) (acts : ℕ) (old new : LogView
     → LineUses n.line old new (Err fault.BadRecord) → IsSaid n (BadRecord n.number name) acts acts old new
 bad_record_is n name acts old new same live h uses =
     unchanged_is n (BadRecord n.number name) acts old new live h.1 uses
-    (now_weaker old.moments (λ s. IsUnreadable s.before (name_of n.line))
-    (λ s. (p : Standing) → p.used ≡ old.used → StandsFor s.before p.plain.store → LineSays s.before old.room p n (BadRecord n.number name) p)
-    (λ s is p taken stands. (subst (IsUnreadable s.before) (sym same) is, refl, same, refl)) h.0)
+    (now_weaker old.moments (λ s. IsUnreadable s.before.table (name_of n.line))
+    (λ s. (p : Standing) → p.used ≡ old.used → StandsFor s.before.table p.plain.store → LineSays s.before.table old.room p n (BadRecord n.number name) p)
+    (λ s is p taken stands. (subst (IsUnreadable s.before.table) (sym same) is, refl, same, refl)) h.0)
 
 -- a text was written, unless memory lacked
 pub is_written : (P : Type 0) (written : Result (Unit {0}) NoMemory) (result : Result (Unit {0}) Unsaid) → IsInWords written result → OnOk written P → IsWritten P result
@@ -284,7 +285,7 @@ told_more lines rest n before acts old mid new put piece sound same goes so word
   same = same_store old mid new so.same same;
   goes_on = goes_further (store_of old) (store_of mid) (store_of new) so.goes_on goes;
   unreadable = now_then old.moments mid.moments new.moments so.goes_on.more
-      (λ x y. SameUnreadable x.before y.before) (λ y z. SameUnreadable y.before z.before) (λ x z. SameUnreadable x.before z.before) so.goes_on.grew
+      (λ x y. SameUnreadable x.before.table y.before.table) (λ y z. SameUnreadable y.before.table z.before.table) (λ x z. SameUnreadable x.before.table z.before.table) so.goes_on.grew
       (λ x y z h k name. (λ un. (h name).0 ((k name).0 un), λ un. (k name).1 ((h name).1 un))) so.unreadable words.is.unreadable;
   from = from old.moments so.goes_on.grew so.from so.unreadable;
 }
@@ -292,20 +293,20 @@ told_more lines rest n before acts old mid new put piece sound same goes so word
     Next : ℕ → Table → Type 0
     Next room u = (p : Standing) → p.plain.acts ≡ before → p.used ≡ mid.used → StandsFor u p.plain.store → SaysLine u room p n words.said acts new
 
-    from : (a : Option (List Sides)) → mid.moments ≡ grown a so.goes_on.more
-        → At a (λ x. (store : Store) → StandsFor x.before store → SaysSoFar x.before old.room (standing store old.used) lines (n ∷ rest) so.said before mid)
-        → At a (λ x. At mid.moments (λ y. SameUnreadable x.before y.before))
-        → At a (λ x. (store : Store) → StandsFor x.before store → SaysSoFar x.before old.room (standing store old.used) lines rest (so.said ++ words.said ∷ []) acts new)
+    from : (a : Option (List CrashMaps)) → mid.moments ≡ grown a so.goes_on.more
+        → At a (λ x. (store : Store) → StandsFor x.before.table store → SaysSoFar x.before.table old.room (standing store old.used) lines (n ∷ rest) so.said before mid)
+        → At a (λ x. At mid.moments (λ y. SameUnreadable x.before.table y.before.table))
+        → At a (λ x. (store : Store) → StandsFor x.before.table store → SaysSoFar x.before.table old.room (standing store old.used) lines rest (so.said ++ words.said ∷ []) acts new)
     from None grew says same = tt
     from (Some xs) grew says same =
         λ store stands.
         let there = Some (xs ++ so.goes_on.more) in
-        let y = last (xs ++ so.goes_on.more) in
+        let y = last no_map (xs ++ so.goes_on.more) in
         let at = says store stands in
-        more_so_far (last xs).before y.before old.room (standing store old.used) lines rest n so.said words.said before acts mid new
-        (now_same mid.moments there (λ z. SameUnreadable (last xs).before z.before) grew same) at
-        (now_same mid.moments there (λ z. StandsFor z.before at.behind.plain.store) grew at.stands)
-        (subst (λ room. Next room y.before) so.same.room (now_same mid.moments there (λ z. Next mid.room z.before) grew words.is.from))
+        more_so_far (last no_map xs).before.table y.before.table old.room (standing store old.used) lines rest n so.said words.said before acts mid new
+        (now_same mid.moments there (λ z. SameUnreadable (last no_map xs).before.table z.before.table) grew same) at
+        (now_same mid.moments there (λ z. StandsFor z.before.table at.behind.plain.store) grew at.stands)
+        (subst (λ room. Next room y.before.table) so.same.room (now_same mid.moments there (λ z. Next mid.room z.before.table) grew words.is.from))
 
 -- of the lines that were left the first was told
 pub told_next : (lines left rest : List Numbered) (n : Numbered) (before acts : ℕ) (old mid new : LogView) (put piece : List ℕ) → left ≡ n ∷ rest → Sound (store_of new) → SameStore mid new
@@ -326,7 +327,7 @@ told_none lines v sound live = record {
   from = from v.moments refl;
 }
   where
-    from : (a : Option (List Sides)) → v.moments ≡ a → At a (λ x. (store : Store) → StandsFor x.before store → SaysSoFar x.before v.room (standing store v.used) lines lines [] 0 v)
+    from : (a : Option (List CrashMaps)) → v.moments ≡ a → At a (λ x. (store : Store) → StandsFor x.before.table store → SaysSoFar x.before.table v.room (standing store v.used) lines lines [] 0 v)
     from None same = tt
     from (Some xs) same =
         λ store stands. record {
@@ -334,12 +335,12 @@ told_none lines v sound live = record {
           says = (refl, refl);
           counted = refl;
           taken = refl;
-          stands = now_same (Some xs) v.moments (λ (z : Sides). StandsFor z.before store) (sym same) stands;
+          stands = now_same (Some xs) v.moments (λ (z : CrashMaps). StandsFor z.before.table store) (sym same) stands;
         }
 
 -- ---- how a run of lines ends
 
-other_side : (m : Option (List Sides)) (P : Table → Type 0) → At m (λ s. s.before ≡ s.after) → At m (λ s. P s.before) → At m (λ s. P s.after)
+other_side : (m : Option (List CrashMaps)) (P : Table → Type 0) → At m (λ s. s.before.table ≡ s.after.table) → At m (λ s. P s.before.table) → At m (λ s. P s.after.table)
 other_side None P one h = tt
 other_side (Some ss) P one h = subst P one h
 
@@ -351,13 +352,13 @@ tells_whole lines left acts old new disk_rose sink_rose put none so = record {
   left = left;
   ending = Whole;
   ends = record { ended = refl; none_left = none; all = so.put_is };
-  from = now_weaker old.moments (λ x. (store : Store) → StandsFor x.before store → SaysSoFar x.before old.room (standing store old.used) lines left so.said acts new)
-      (λ x. (store : Store) → StandsFor x.before store → SaysFrom x.before old.room (standing store old.used) lines so.said left Whole (store_of new))
+  from = now_weaker old.moments (λ x. (store : Store) → StandsFor x.before.table store → SaysSoFar x.before.table old.room (standing store old.used) lines left so.said acts new)
+      (λ x. (store : Store) → StandsFor x.before.table store → SaysFrom x.before.table old.room (standing store old.used) lines so.said left Whole (store_of new))
       (λ x says store stands. let at = says store stands in record {
         now = at.behind;
         says = at.says;
         before = at.stands;
-        after_ = other_side new.moments (λ u. StandsFor u at.behind.plain.store) (so.sound so.live) at.stands;
+        after_ = other_side new.moments (λ u. StandsFor u at.behind.plain.store) (one_table (store_of new) (so.sound so.live)) at.stands;
       }) so.from;
 }
 
@@ -382,13 +383,13 @@ unheard_ends lines rest n before acts old mid new disk_rose sink_rose whole_sink
         front = unheard.front;
         heard = ap (λ a. a ++ piece) so.put_is;
       };
-      from = now_weaker old.moments (λ x. (store : Store) → StandsFor x.before store → SaysSoFar x.before old.room (standing store old.used) lines rest (so.said ++ unheard.said ∷ []) acts new)
-          (λ x. (store : Store) → StandsFor x.before store → SaysFrom x.before old.room (standing store old.used) lines (so.said ++ unheard.said ∷ []) rest Unheard (store_of new))
+      from = now_weaker old.moments (λ x. (store : Store) → StandsFor x.before.table store → SaysSoFar x.before.table old.room (standing store old.used) lines rest (so.said ++ unheard.said ∷ []) acts new)
+          (λ x. (store : Store) → StandsFor x.before.table store → SaysFrom x.before.table old.room (standing store old.used) lines (so.said ++ unheard.said ∷ []) rest Unheard (store_of new))
           (λ x says store stands. let at = says store stands in record {
             now = at.behind;
             says = at.says;
             before = at.stands;
-            after_ = other_side new.moments (λ u. StandsFor u at.behind.plain.store) (sound unheard.is.live) at.stands;
+            after_ = other_side new.moments (λ u. StandsFor u at.behind.plain.store) (one_table (store_of new) (sound unheard.is.live)) at.stands;
           }) all.from;
     }
 
@@ -424,22 +425,22 @@ stopped_ends lines rest n before old mid new disk_rose sink_rose whole_disk whol
   from = from old.moments so.goes_on.grew so.from;
 }
   where
-    from : (a : Option (List Sides)) → mid.moments ≡ grown a so.goes_on.more
-        → At a (λ x. (store : Store) → StandsFor x.before store → SaysSoFar x.before old.room (standing store old.used) lines (n ∷ rest) so.said before mid)
-        → At a (λ x. (store : Store) → StandsFor x.before store → SaysFrom x.before old.room (standing store old.used) lines so.said (n ∷ rest) (Stopped n) (store_of new))
+    from : (a : Option (List CrashMaps)) → mid.moments ≡ grown a so.goes_on.more
+        → At a (λ x. (store : Store) → StandsFor x.before.table store → SaysSoFar x.before.table old.room (standing store old.used) lines (n ∷ rest) so.said before mid)
+        → At a (λ x. (store : Store) → StandsFor x.before.table store → SaysFrom x.before.table old.room (standing store old.used) lines so.said (n ∷ rest) (Stopped n) (store_of new))
     from None grew says = tt
     from (Some xs) grew says =
         λ store stands.
         let there = Some (xs ++ so.goes_on.more) in
-        let y = last (xs ++ so.goes_on.more) in
+        let y = last no_map (xs ++ so.goes_on.more) in
         let at = says store stands in
-        let was = now_same mid.moments there (λ z. StandsFor z.before at.behind.plain.store) grew at.stands in
-        let leaves = now_same mid.moments there (λ z. Now (store_of new) (InDoubt n.line z.before)) grew stops.leaves in
+        let was = now_same mid.moments there (λ z. StandsFor z.before.table at.behind.plain.store) grew at.stands in
+        let leaves = now_same mid.moments there (λ z. Now (store_of new) (InDoubt n.line z.before.table)) grew stops.leaves in
         record {
           now = at.behind;
           says = at.says;
-          before = now_weaker new.moments (InDoubt n.line y.before) (λ s. IsLeft at.behind (Stopped n) s.before) (λ s doubt. (doubt at.behind.plain was).0) leaves;
-          after_ = now_weaker new.moments (InDoubt n.line y.before) (λ s. IsLeft at.behind (Stopped n) s.after) (λ s doubt. (doubt at.behind.plain was).1) leaves;
+          before = now_weaker new.moments (InDoubt n.line y.before.table) (λ s. IsLeft at.behind (Stopped n) s.before.table) (λ s doubt. (doubt at.behind.plain was).0) leaves;
+          after_ = now_weaker new.moments (InDoubt n.line y.before.table) (λ s. IsLeft at.behind (Stopped n) s.after.table) (λ s doubt. (doubt at.behind.plain was).1) leaves;
         }
 
 -- the run ends at a line

@@ -1,40 +1,36 @@
 -- What is known of a store now, and how it goes on over calls.
-use Rattle.std.proofs.Common.{◌≡◌, List, [], ◌++◌, Option, Some, None, refl, sym, ap, subst, ◌∙◌, append_assoc}
-use Rattle.std.proofs.lemmas.List.{append-nil}
-use Rattle.store_face.specs.Views.{StoreView, Sides, last, grown}
+use Rattle.std.proofs.Common.{◌≡◌, List, [], ◌++◌, Option, Some, None, ap, ◌∙◌}
+use Rattle.tier_outside.specs.Moments as moments
+use Rattle.tier_outside.specs.Moments.{grown}
+use Rattle.tier_outside.proofs.Moments as laws
+use Rattle.tier_outside.proofs.Moments.{grown_none, grown_twice, then_then}
+use Rattle.store_face.specs.Views.{CrashMaps, Durable, IsOne, Now, StoreView, no_map}
 use Rattle.tier_tool.specs.Bases.{GoesOn}
 
 -- where there are moments, the last one has P
-abbrev pub At : Option (List Sides) → (Sides → Type 0) → Type 0
-At m P = elim m [ None ↦ Unit {0} | Some ss ↦ P (last ss) ]
+abbrev pub At : Option (List CrashMaps) → (CrashMaps → Type 0) → Type 0
+At m P = moments.Now no_map m P
 
-pub now_weaker : (m : Option (List Sides)) (P Q : Sides → Type 0) → ((s : Sides) → P s → Q s) → At m P → At m Q
-now_weaker None P Q weaker h = tt
-now_weaker (Some ss) P Q weaker h = weaker (last ss) h
+pub now_weaker : (m : Option (List CrashMaps)) (P Q : CrashMaps → Type 0) → ((s : CrashMaps) → P s → Q s) → At m P → At m Q
+now_weaker m P Q weaker h = laws.now_weaker no_map m P Q weaker h
 
-pub now_two : (m : Option (List Sides)) (P Q R : Sides → Type 0) → ((s : Sides) → P s → Q s → R s) → At m P → At m Q → At m R
-now_two None P Q R both h k = tt
-now_two (Some ss) P Q R both h k = both (last ss) h k
+pub now_two : (m : Option (List CrashMaps)) (P Q R : CrashMaps → Type 0) → ((s : CrashMaps) → P s → Q s → R s)
+    → At m P → At m Q → At m R
+now_two m P Q R both h k = laws.now_two no_map m P Q R both h k
 
-pub now_same : (m n : Option (List Sides)) (P : Sides → Type 0) → m ≡ n → At m P → At n P
-now_same m n P e h = subst (λ w. At w P) e h
+pub now_same : (m n : Option (List CrashMaps)) (P : CrashMaps → Type 0) → m ≡ n → At m P → At n P
+now_same m n P e h = laws.now_same no_map m n P e h
 
 -- what stands at the moment now, and at the one behind the next call
-pub now_then : (a b c : Option (List Sides)) (more : List Sides) (P Q R : Sides → Sides → Type 0) → b ≡ grown a more
-    → ((x y z : Sides) → P x y → Q y z → R x z) → At a (λ x. At b (P x)) → At b (λ y. At c (Q y)) → At a (λ x. At c (R x))
-now_then None b c more P Q R grew both h k = tt
-now_then (Some xs) b c more P Q R grew both h k =
-    let y = last (xs ++ more) in
-    let there = now_same b (Some (xs ++ more)) (P (last xs)) grew h in
-    now_weaker c (Q y) (R (last xs)) (λ z q. both (last xs) y z there q) (now_same b (Some (xs ++ more)) (λ w. At c (Q w)) grew k)
+pub now_then : (a b c : Option (List CrashMaps)) (more : List CrashMaps) (P Q R : CrashMaps → CrashMaps → Type 0)
+    → b ≡ grown a more → ((x y z : CrashMaps) → P x y → Q y z → R x z)
+    → At a (λ x. At b (P x)) → At b (λ y. At c (Q y)) → At a (λ x. At c (R x))
+now_then a b c more P Q R grew both h k = then_then no_map a b c more P Q R grew both h k
 
-pub grown_none : (a : Option (List Sides)) → a ≡ grown a []
-grown_none None = refl
-grown_none (Some ss) = ap Some (sym (append-nil ss))
-
-grown_twice : (a : Option (List Sides)) (more again : List Sides) → grown (grown a more) again ≡ grown a (more ++ again)
-grown_twice None more again = refl
-grown_twice (Some ss) more again = ap Some (append_assoc ss more again)
+-- the one map of a live store
+pub one_table : (v : StoreView) → Now v (IsOne v.used) → Now v (λ s. s.before.table ≡ s.after.table)
+one_table v one =
+    now_weaker v.moments (IsOne v.used) (λ s. s.before.table ≡ s.after.table) (λ s is. ap (λ (d : Durable). d.table) is.same) one
 
 -- no moment came
 pub nothing_came : (v : StoreView) → GoesOn v v

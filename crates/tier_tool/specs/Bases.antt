@@ -2,7 +2,8 @@
 use Rattle.std.specs.Prelude.{◌≡◌, ◌↔◌, ◌⊎◌, ◌<◌, ◌≤◌, ℕ, ◌+◌, Bool, true, false, List, ◌∷◌, Option, Some, None, Result, Ok, Err, if◌then◌else◌}
 use Rattle.std.specs.FinMap as fin
 use Rattle.store_face.specs.Tables.{Table}
-use Rattle.store_face.specs.Views.{StoreView, Sides, Now, Holds, grown}
+use Rattle.tier_outside.specs.Moments.{grown}
+use Rattle.store_face.specs.Views.{StoreView, CrashMaps, Now, Holds}
 use Rattle.store_face.specs.Calls.{Stays, Fails}
 use Rattle.rec_codec.specs.Spelling.{SpellsState}
 use Rattle.obj_model.specs.declared.state.NameState.{NameState}
@@ -10,8 +11,8 @@ use Rattle.obj_ops.specs.Acts.{act}
 use Rattle.obj_ops.specs.Stores.{Store, state_of}
 use Rattle.obj_ops.specs.declared.request.Acted.{Acted}
 use Rattle.obj_ops.specs.declared.request.Acted.TheVariants.{Fresh, Again, Stale, Worn}
-use Rattle.script_lang.specs.declared.line.Line.{Line}
-use Rattle.script_lang.specs.declared.line.Line.TheVariants.{Op, Get}
+use Rattle.tier_tool.specs.declared.task.Task.{Task}
+use Rattle.tier_tool.specs.declared.task.Task.TheVariants.{Op, Get}
 use Rattle.tier_tool.specs.Plain.{Plain, answer, after}
 use Rattle.tier_tool.specs.declared.answer.Answer.{Answer}
 use Rattle.tier_tool.specs.declared.base.LineFault.{LineFault}
@@ -43,7 +44,7 @@ abbrev pub SameUnreadable : Table → Table → Type 0
 SameUnreadable t u = (name : List ℕ) → IsUnreadable u name ↔ IsUnreadable t name
 
 -- the name that a line speaks of
-abbrev pub name_of : Line → List ℕ
+abbrev pub name_of : Task → List ℕ
 name_of (Op req) = req.name
 name_of (Get client name vector) = name
 
@@ -55,7 +56,7 @@ IsFresh (Stale kept) = ⊥
 IsFresh (Worn limit) = ⊥
 
 -- a line is a request that acts
-abbrev pub ActsOn : Store → Line → Type 0
+abbrev pub ActsOn : Store → Task → Type 0
 ActsOn store (Op req) = IsFresh (act (state_of store req.name) req)
 ActsOn store (Get client name vector) = ⊥
 
@@ -64,19 +65,19 @@ abbrev pub acts_more : Bool → ℕ
 acts_more acted = if acted then 1 else 0
 
 -- A line was answered from a map that stands for a store as the plain store answers it, and the map now stands for the store after it.
-pub record IsAnswered (line : Line) (t : Table) (new : StoreView) (a : Answer) (acted : Bool) : Type 0 where
+pub record IsAnswered (line : Task) (t : Table) (new : StoreView) (a : Answer) (acted : Bool) : Type 0 where
   pub readable : ¬ IsUnreadable t (name_of line)
   pub unreadable : Holds new (SameUnreadable t)
   pub plainly : (p : Plain) → StandsFor t p.store
       → (a ≡ answer p line) × ((after p line).acts ≡ p.acts + acts_more acted) × Holds new (λ u. StandsFor u (after p line).store)
 
 -- a map that a stop may leave stands for the store before a line, or for the one after it
-abbrev pub BeforeOrAfter : Plain → Line → Table → Type 0
+abbrev pub BeforeOrAfter : Plain → Task → Table → Type 0
 BeforeOrAfter p line u = StandsFor u p.store ⊎ StandsFor u (after p line).store
 
 -- what a stop leaves where the disk failed in a line
-abbrev pub InDoubt : Line → Table → Sides → Type 0
-InDoubt line t s = (p : Plain) → StandsFor t p.store → BeforeOrAfter p line s.before × BeforeOrAfter p line s.after
+abbrev pub InDoubt : Task → Table → CrashMaps → Type 0
+InDoubt line t s = (p : Plain) → StandsFor t p.store → BeforeOrAfter p line s.before.table × BeforeOrAfter p line s.after.table
 
 -- where no request acted nothing was written: no moment came
 abbrev pub WritesOnlyIf : Bool → StoreView → StoreView → Type 0
@@ -84,7 +85,7 @@ WritesOnlyIf true old new = Unit {0}
 WritesOnlyIf false old new = new.moments ≡ old.moments
 
 -- What a line is answered, with whether it acted; or why it is not carried out. Only a disk that failed may leave an act behind.
-abbrev pub LineEnds : Line → StoreView → StoreView → Result (Answer × Bool) LineFault → Type 0
+abbrev pub LineEnds : Task → StoreView → StoreView → Result (Answer × Bool) LineFault → Type 0
 LineEnds line old new (Ok done) =
     Holds old (λ t. IsAnswered line t new done.0 done.1) × (new.live ≡ true) × (old.faults ≤ new.faults) × WritesOnlyIf done.1 old new
 LineEnds line old new (Err (fault.NoSpace used need limit)) =
@@ -95,5 +96,5 @@ LineEnds line old new (Err fault.NoMemory) = Stays old new
 
 -- more moments came; a store that does not tell its maps still does not
 pub record GoesOn (old new : StoreView) : Type 0 where
-  pub more : List Sides
+  pub more : List CrashMaps
   pub grew : new.moments ≡ grown old.moments more

@@ -4,16 +4,17 @@ use Rattle.obj_model.specs.declared.change.Pool.TheVariants.{Base}
 use Rattle.obj_model.specs.declared.req.Req.{Req}
 use Rattle.obj_ops.specs.Stores.{Store, replay}
 use Rattle.store_face.specs.Tables.{Table}
-use Rattle.log_image.specs.Images.{HoldsMap, Log}
+use Rattle.log_image.specs.Images.{HoldsMap}
+use Rattle.store_face.specs.Views.{Durable}
 use Rattle.log_store.specs.Opens.{OpensAs}
-use Rattle.script_lang.specs.declared.line.Line.{Line}
-use Rattle.script_lang.specs.declared.line.Line.TheVariants.{Op, Get}
-use Rattle.script_lang.specs.declared.line.Numbered.{Numbered}
+use Rattle.tier_tool.specs.declared.task.Task.{Task}
+use Rattle.tier_tool.specs.declared.task.Task.TheVariants.{Op, Get}
+use Rattle.tier_tool.specs.declared.task.Numbered.{Numbered}
 use Rattle.tier_tool.specs.Bases.{StandsFor}
 use Rattle.tier_tool.specs.Plain.{Plain, after, answers, begun, plain}
 
 -- a request before others, where the line is one
-abbrev pub with_request : Line → List Req → List Req
+abbrev pub with_request : Task → List Req → List Req
 with_request (Op req) others = req ∷ others
 with_request (Get client name vector) others = others
 
@@ -39,4 +40,4 @@ RequestsMakeTheStore lines = (store : Store) → (behind lines (begun store)).st
 -- A run that opens a disk which holds a map goes on from the plain store that the map stands for.
 abbrev pub TheNextRunGoesOn : Type 0
 TheNextRunGoesOn =
-    (image : List ℕ) (u : Table) (log : Log) (store : Store) → HoldsMap Base 257 image u → StandsFor u store → OpensAs Base 257 log image → StandsFor log.table store
+    (image : List ℕ) (u : Table) (log : Durable) (store : Store) → HoldsMap Base 257 image u → StandsFor u store → OpensAs Base 257 log image → StandsFor log.table store

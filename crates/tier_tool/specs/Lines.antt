@@ -5,7 +5,7 @@ use Rattle.store_face.specs.Tables.{Table}
 use Rattle.store_face.specs.Views.{StoreView, Now, Holds}
 use Rattle.log_store.specs.Views.{LogView, store_of}
 use Rattle.obj_ops.specs.Stores.{Store}
-use Rattle.script_lang.specs.declared.line.Numbered.{Numbered}
+use Rattle.tier_tool.specs.declared.task.Numbered.{Numbered}
 use Rattle.tier_tool.specs.Bases.{StandsFor, IsUnreadable, ActsOn, name_of}
 use Rattle.tier_tool.specs.Plain.{Plain, Answered, answered, after, begun}
 use Rattle.tier_tool.specs.Rooms.{HasRoom, cost}
@@ -127,8 +127,8 @@ IsLeft q (Stopped n) u = StandsFor u q.plain.store ⊎ StandsFor u (after q.plai
 pub record SaysFrom (t : Table) (room : ℕ) (from : Standing) (lines : List Numbered) (said : List Said) (left : List Numbered) (ending : Ending) (new : StoreView) : Type 0 where
   pub now : Standing
   pub says : Says t room from lines said left now
-  pub before : Now new (λ s. IsLeft now ending s.before)
-  pub after_ : Now new (λ s. IsLeft now ending s.after)
+  pub before : Now new (λ s. IsLeft now ending s.before.table)
+  pub after_ : Now new (λ s. IsLeft now ending s.after.table)
 
 -- Lines were carried out on a pool's store, and what is said of each was put before the next: what was put, and the status.
 pub record TellsLines (lines : List Numbered) (old new : LogView) (disk_rose sink_rose : Type 0) (put : List ℕ) (status : ℕ) : Type 0 where

@@ -1,24 +1,27 @@
 -- What a run does, from the words of its command line and the bytes of its script to the bytes put, the status, and the base pool's disk.
-use Rattle.std.specs.Prelude.{◌≡◌, ◌≢◌, ◌<◌, ◌≤◌, ◌^◌, ◌⊎◌, ℕ, List, [], ◌∷◌, length, take, Option, None, IfSome, codes}
+use Rattle.std.specs.Prelude.{◌≡◌, ◌≢◌, ◌<◌, ◌≤◌, ◌^◌, ◌⊎◌, ℕ, List, [], ◌∷◌, length, map, take, Option, None, IfSome, codes}
 use Rattle.std.specs.List.{concat}
 use Rattle.obj_model.specs.declared.change.Pool.TheVariants.{Base}
 use Rattle.obj_ops.specs.Stores.{Store}
 use Rattle.script_lang.specs.Scripts.{IsScript, IsFault}
-use Rattle.script_lang.specs.declared.line.Numbered.{Numbered}
-use Rattle.script_lang.specs.declared.read.Cause.{Cause}
+use Rattle.tier_tool.specs.declared.task.Numbered.{Numbered}
+use Rattle.script_lang.specs.declared.cause.Cause.{Cause}
+use Rattle.script_lang.specs.declared.line.Numbered as lang
 use Rattle.tier_outside.specs.Disk.{DiskMoment, EachImage, IsImage}
 use Rattle.tier_outside.specs.DiskMoments.{Now, SomeImage}
 use Rattle.tier_outside.specs.Streams.{Loses, Gains}
 use Rattle.store_face.specs.Tables.{Table}
 use Rattle.log_image.specs.Fronts.{IsBad, IsOf}
-use Rattle.log_image.specs.Images.{HoldsMap, Log}
+use Rattle.log_image.specs.Images.{HoldsMap}
+use Rattle.store_face.specs.Views.{Durable}
 use Rattle.log_store.specs.Opens.{OpeningStops, OpensAs}
 use Rattle.tier_tool.specs.declared.pair.DiskPair.{DiskPair}
 use Rattle.tier_tool.specs.declared.reading.Unread.{Unread}
 use Rattle.tier_tool.specs.declared.reading.Unread.TheVariants.{Fault, NoMemory}
 use Rattle.tier_tool.specs.Bases.{StandsFor}
 use Rattle.tier_tool.specs.Lines.{EndsAs, Ending, IsFront, IsLeft, Said, Says, Standing, standing}
-use Rattle.tier_tool.specs.Texts.{bad_image_text, fault_text, usage_text, wrong_pair_text}
+use Rattle.tier_tool.specs.Tasks.{IsFirstUnbuilt, as_line}
+use Rattle.tier_tool.specs.Texts.{bad_image_text, fault_text, unbuilt_text, usage_text, wrong_pair_text}
 
 -- the words ask for a run: there is one, and it is `run`
 abbrev pub AskRun : List (List ℕ) → Type 0
@@ -123,6 +126,15 @@ pub record TellsFault (script : List ℕ) (sink_rose : Type 0) (base_old base_ne
   pub base_same : base_new ≡ base_old
   pub told : MakesAndTells (fault_text line cause ∷ []) 4 sink_rose put status
 
+-- the script is accepted, and the verb of a line is not built yet: the first such line is told, with status 4, and no disk is touched
+pub record TellsUnbuilt (script : List ℕ) (sink_rose : Type 0) (base_old base_new : Option (List DiskMoment)) (put : List ℕ) (status : ℕ) : Type 0 where
+  pub lines : List lang.Numbered
+  pub is_script : IsScript script lines
+  pub number : ℕ
+  pub unbuilt : IsFirstUnbuilt lines number
+  pub base_same : base_new ≡ base_old
+  pub told : MakesAndTells (unbuilt_text number ∷ []) 4 sink_rose put status
+
 -- the base's disk failed while it was opened: status 6, and nothing is put
 pub record BaseFailed (disk_rose : Type 0) (base_old base_new : Option (List DiskMoment)) (put : List ℕ) (status : ℕ) : Type 0 where
   pub ended : status ≡ 6
@@ -154,19 +166,20 @@ pub record CarriesLines (lines : List Numbered) (room : ℕ) (disk_rose sink_ros
   pub left : List Numbered
   pub ending : Ending
   pub ends : EndsAs disk_rose sink_rose said left ending put status
-  pub from : SomeImage base_old (λ image. (log : Log) × OpensAs Base 257 log image
+  pub from : SomeImage base_old (λ image. (log : Durable) × OpensAs Base 257 log image
       × ((store : Store) → StandsFor log.table store → SaidFrom log.table room (standing store log.used) lines said left ending base_new))
 
 -- the script is accepted, and its lines are carried out
 pub record AnswersLines (script : List ℕ) (room : ℕ) (disk_rose sink_rose : Type 0) (base_old base_new : Option (List DiskMoment)) (put : List ℕ) (status : ℕ) : Type 0 where
   pub lines : List Numbered
-  pub is_script : IsScript script lines
+  pub is_script : IsScript script (map as_line lines)
   pub carried : CarriesLines lines room disk_rose sink_rose base_old base_new put status
 
 -- the source was read to its end, or past the most bytes that a script may have, and what it gave was carried out
 pub record CarriesOut (left : Option (List ℕ)) (room : ℕ) (disk_rose sink_rose : Type 0) (base_old base_new : Option (List DiskMoment)) (script put : List ℕ) (status : ℕ) : Type 0 where
   pub read : IsReadWhole left script
   pub told : TellsFault script sink_rose base_old base_new put status
+      ⊎ TellsUnbuilt script sink_rose base_old base_new put status
       ⊎ BaseFailed disk_rose base_old base_new put status
       ⊎ RefusesImage sink_rose base_old base_new put status
       ⊎ AnswersLines script room disk_rose sink_rose base_old base_new put status
@@ -209,6 +222,7 @@ abbrev pub Carries : List ℕ → (room : ℕ) → (disk_rose sink_rose : Type 0
 Carries script room disk_rose sink_rose base_old base_new put status =
     LacksMemory base_old base_new put status
     ⊎ TellsFault script sink_rose base_old base_new put status
+    ⊎ TellsUnbuilt script sink_rose base_old base_new put status
     ⊎ BaseFailed disk_rose base_old base_new put status
     ⊎ RefusesImage sink_rose base_old base_new put status
     ⊎ AnswersLines script room disk_rose sink_rose base_old base_new put status

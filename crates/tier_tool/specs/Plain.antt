@@ -9,9 +9,9 @@ use Rattle.obj_ops.specs.Acts.{act, look}
 use Rattle.obj_ops.specs.Stores.{Store, state_of, store_after}
 use Rattle.obj_ops.specs.declared.request.Acted.{Acted}
 use Rattle.obj_ops.specs.declared.request.Acted.TheVariants.{Fresh, Again, Stale, Worn}
-use Rattle.script_lang.specs.declared.line.Line.{Line}
-use Rattle.script_lang.specs.declared.line.Line.TheVariants.{Op, Get}
-use Rattle.script_lang.specs.declared.line.Numbered.{Numbered}
+use Rattle.tier_tool.specs.declared.task.Task.{Task}
+use Rattle.tier_tool.specs.declared.task.Task.TheVariants.{Op, Get}
+use Rattle.tier_tool.specs.declared.task.Numbered.{Numbered}
 use Rattle.tier_tool.specs.Answers.{of_request, of_reading}
 use Rattle.tier_tool.specs.declared.answer.Answer.{Answer}
 
@@ -25,7 +25,7 @@ abbrev pub begun : Store → Plain
 begun store = record { store = store; acts = 0 }
 
 -- what a line is answered
-abbrev pub answer : Plain → Line → Answer
+abbrev pub answer : Plain → Task → Answer
 answer p (Op req) = of_request (act (state_of p.store req.name) req)
 answer p (Get client name vector) = of_reading (look (state_of p.store name) vector)
 
@@ -41,7 +41,7 @@ abbrev pub after_request : Plain → List ℕ → Acted → Plain
 after_request p name a = record { store = store_after p.store name a; acts = acts_after p.acts a }
 
 -- the store and its count after a line; a reading changes nothing
-abbrev pub after : Plain → Line → Plain
+abbrev pub after : Plain → Task → Plain
 after p (Op req) = after_request p req.name (act (state_of p.store req.name) req)
 after p (Get client name vector) = p
 

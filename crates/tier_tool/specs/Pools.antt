@@ -5,7 +5,7 @@ use Rattle.obj_model.specs.States.{IsState, unknown}
 use Rattle.obj_model.specs.declared.state.NameState.{NameState}
 use Rattle.rec_codec.specs.Spelling.{SpellsState}
 use Rattle.store_face.specs.Tables.{Table}
-use Rattle.store_face.specs.Views.{StoreView, Sides, Now, Holds}
+use Rattle.store_face.specs.Views.{StoreView, CrashMaps, Now, Holds}
 use Rattle.store_face.specs.Calls.{Stays, Fails}
 use Rattle.store_face.specs.declared.fault.StoreFault.{StoreFault}
 use Rattle.store_face.specs.declared.fault.StoreFault.TheVariants as store
@@ -53,9 +53,9 @@ pub record IsWith (name : List ℕ) (s : NameState) (t u : Table) : Type 0 where
   pub is : u ≡ fin.insert t (state_key name) bytes
 
 -- a stop leaves one of two maps: this one, or the one with this state for a name
-pub record IsTorn (name : List ℕ) (s : NameState) (t : Table) (sides : Sides) : Type 0 where
-  pub before : (sides.before ≡ t) ⊎ IsWith name s t sides.before
-  pub after : (sides.after ≡ t) ⊎ IsWith name s t sides.after
+pub record IsTorn (name : List ℕ) (s : NameState) (t : Table) (sides : CrashMaps) : Type 0 where
+  pub before : (sides.before.table ≡ t) ⊎ IsWith name s t sides.before.table
+  pub after : (sides.after.table ≡ t) ⊎ IsWith name s t sides.after.table
 
 -- the state of a name was put into the map; or the disk failed, and a stop leaves the map before or after; or nothing changed
 abbrev pub WasPut : List ℕ → NameState → StoreView → StoreView → Result (Unit {0}) LineFault → Type 0

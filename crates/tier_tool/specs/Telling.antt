@@ -1,5 +1,5 @@
 -- How one line is carried out and told, and how the base is opened, carried on and closed.
-use Rattle.std.specs.Prelude.{◌≡◌, ◌⊎◌, ℕ, true, List, [], ◌∷◌, ◌++◌, Option, Result, Ok, Err}
+use Rattle.std.specs.Prelude.{◌≡◌, ◌⊎◌, ℕ, true, List, [], ◌∷◌, ◌++◌, map, Option, Result, Ok, Err}
 use Rattle.tier_outside.specs.Disk.{DiskMoment}
 use Rattle.log_store.specs.Commits.{SameStore}
 use Rattle.log_store.specs.Views.{LogView, store_of}
@@ -7,13 +7,15 @@ use Rattle.log_store.specs.declared.fault.AttachFault.{AttachFault}
 use Rattle.log_store.specs.declared.fault.AttachFault.TheVariants as fault
 use Rattle.obj_model.specs.declared.memory.NoMemory.{NoMemory}
 use Rattle.obj_ops.specs.Stores.{Store}
-use Rattle.script_lang.specs.declared.line.Numbered.{Numbered}
+use Rattle.tier_tool.specs.declared.task.Numbered.{Numbered}
 use Rattle.store_face.specs.Tables.{Table}
 use Rattle.store_face.specs.Views.{StoreView, Sound, Now, Holds}
 use Rattle.tier_tool.specs.Bases.{GoesOn, InDoubt, SameUnreadable, StandsFor, name_of}
 use Rattle.tier_tool.specs.Lines.{EndsFailed, EndsFailedUnheard, EndsLacking, IsFront, LineSays, Said, Says, Standing, said_text, standing, texts_of}
 use Rattle.tier_tool.specs.Main.{BaseFailed, CarriesLines, LacksMemory, MakesAndTells, RefusesImage}
-use Rattle.tier_tool.specs.Texts.{bad_image_text, bad_record_text, no_space_text, wrong_pair_text}
+use Rattle.script_lang.specs.declared.line.Numbered as lang
+use Rattle.tier_tool.specs.Tasks.{IsFirstUnbuilt, as_line}
+use Rattle.tier_tool.specs.Texts.{bad_image_text, bad_record_text, no_space_text, unbuilt_text, wrong_pair_text}
 use Rattle.tier_tool.specs.declared.base.LineFault.{LineFault}
 use Rattle.tier_tool.specs.declared.base.LineFault.TheVariants as line
 use Rattle.tier_tool.specs.declared.saying.Unsaid.{Unsaid}
@@ -124,3 +126,10 @@ RunsOn lines room disk_rose sink_rose base_old base_new put status =
     ⊎ BaseFailed disk_rose base_old base_new put status
     ⊎ RefusesImage sink_rose base_old base_new put status
     ⊎ CarriesLines lines room disk_rose sink_rose base_old base_new put status
+
+-- the verbs of these lines are built, and they were carried out; or the first that is not built was told
+abbrev pub CarriesTasks : List lang.Numbered → (room : ℕ) → (disk_rose sink_rose : Type 0) → (base_old base_new : Option (List DiskMoment)) → List ℕ → ℕ → Type 0
+CarriesTasks lines room disk_rose sink_rose base_old base_new put status =
+    LacksMemory base_old base_new put status
+    ⊎ ((number : ℕ) × IsFirstUnbuilt lines number × (base_new ≡ base_old) × MakesAndTells (unbuilt_text number ∷ []) 4 sink_rose put status)
+    ⊎ ((tasks : List Numbered) × (lines ≡ map as_line tasks) × RunsOn tasks room disk_rose sink_rose base_old base_new put status)

@@ -7,8 +7,8 @@ use Rattle.obj_model.specs.declared.out.Pair.{Pair}
 use Rattle.obj_model.specs.declared.reply.Why.{Why}
 use Rattle.obj_model.specs.declared.reply.Why.TheVariants.{Exists, NoEnt, NoData, Canceled, Range, Overflow, TooBig}
 use Rattle.script_lang.specs.Spelling.{bytes_word}
-use Rattle.script_lang.specs.declared.read.Cause.{Cause}
-use Rattle.script_lang.specs.declared.read.Cause.TheVariants.{Unbuilt, Long, Lines}
+use Rattle.script_lang.specs.declared.cause.Cause.{Cause}
+use Rattle.script_lang.specs.declared.cause.Cause.TheVariants as cause
 use Rattle.tier_tool.specs.Plain.{Answered}
 use Rattle.tier_tool.specs.declared.answer.Answer.{Answer}
 use Rattle.tier_tool.specs.declared.answer.Answer.TheVariants.{Done, Refused, Values, Stale, Worn}
@@ -17,15 +17,33 @@ use Rattle.tier_tool.specs.declared.answer.Answer.TheVariants.{Done, Refused, Va
 abbrev pub usage_text : List ℕ
 usage_text = codes "usage: run|check|show|gen [--paths] [--history] [--summary] [--count N] [--start N]\n"
 
--- the word of a cause
-abbrev pub cause_word : Cause → List ℕ
-cause_word Unbuilt = codes "unbuilt"
-cause_word Long = codes "long"
-cause_word Lines = codes "lines"
+-- a cause in words
+abbrev pub cause_text : Cause → List ℕ
+cause_text cause.Byte = codes "byte"
+cause_text cause.Words = codes "words"
+cause_text (cause.LeftOut word) = codes "left-out " ++ word
+cause_text cause.Verb = codes "verb"
+cause_text cause.Subop = codes "subop"
+cause_text cause.Mode = codes "mode"
+cause_text cause.Number = codes "number"
+cause_text cause.Client = codes "client"
+cause_text cause.Name = codes "name"
+cause_text cause.Hex = codes "hex"
+cause_text cause.Many = codes "many"
+cause_text (cause.Mixed place) = codes "mixed " ++ decimal place
+cause_text cause.Heavy = codes "heavy"
+cause_text cause.Time = codes "time"
+cause_text cause.Par = codes "par"
+cause_text cause.Long = codes "long"
+cause_text cause.Lines = codes "lines"
 
 -- what is put where the script is refused at this line
 abbrev pub fault_text : ℕ → Cause → List ℕ
-fault_text line cause = codes "script " ++ decimal line ++ codes " " ++ cause_word cause ++ codes "\n"
+fault_text line why = codes "script " ++ decimal line ++ codes " " ++ cause_text why ++ codes "\n"
+
+-- what is put where the verb of this line is not built yet
+abbrev pub unbuilt_text : ℕ → List ℕ
+unbuilt_text line = codes "script " ++ decimal line ++ codes " unbuilt\n"
 
 -- why a sub-operation was refused
 abbrev pub why_text : Why → List ℕ

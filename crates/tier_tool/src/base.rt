@@ -4,9 +4,9 @@ ghost use Rattle.std.specs.Prelude.{◌≡◌, ℕ, IfOk, None, false, true};
 ghost use Rattle.std.specs.List.{list_any};
 ghost use Rattle.obj_model.specs.Names.{name_fault};
 ghost use Rattle.obj_model.specs.States.{IsState};
-ghost use Rattle.obj_model.specs.Vectors.{is_write};
-ghost use Rattle.script_lang.specs.Spelling.{IsLine};
-ghost use Rattle.script_lang.specs.declared.line.Line.TheVariants as line;
+ghost use Rattle.obj_model.specs.SubOps.{is_write};
+ghost use Rattle.tier_tool.specs.Tasks.{IsTask};
+ghost use Rattle.tier_tool.specs.declared.task.Task.TheVariants as line;
 ghost use Rattle.log_store.specs.Commits.{SameStore};
 ghost use Rattle.log_store.specs.Views.{store_of};
 ghost use Rattle.store_face.specs.Views.{Sound};
@@ -20,7 +20,7 @@ use log_store::LogStore;
 use obj_model::{Bytes, Change, Name, NameState, NoMemory, Req, Vector};
 use obj_ops::{Acted, act, look};
 use rec_codec::{read_state, write_state};
-use script_lang::Line;
+use crate::task::Task;
 use std::alloc::Global;
 use store_face::{Store, StoreFault};
 use tier_outside::Disk;
@@ -51,20 +51,19 @@ impl From<NoMemory> for LineFault {
 pub fn answer<D: Disk + Drop>(
     alloc: Global,
     pool: &mut LogStore<D>,
-    line: &Line,
+    line: &Task,
 ) -> Result<(Answer, bool), LineFault>
     requires live { (store_of pool.old).live ≡ true }
-    requires lawful { IsLine line.now }
+    requires sound { Sound (store_of pool.old) }
+    requires lawful { IsTask line.now }
     ensures ended { LineEnds line.now (store_of pool.old) (store_of pool.new) result }
     ensures uses { LineUses line.now pool.old pool.new result }
     ensures same { SameStore pool.old pool.new }
     ensures goes_on { GoesOn (store_of pool.old) (store_of pool.new) }
 {
-    // A live store has one map, which is a fact that this call brings along.
-    let _ = pool.is_live();
     match line {
-        Line::Op(req) => request(alloc, pool, req),
-        Line::Get { name, vector, .. } => reading(alloc, pool, name, vector),
+        Task::Op(req) => request(alloc, pool, req),
+        Task::Get { name, vector, .. } => reading(alloc, pool, name, vector),
     }
 }
 
@@ -77,7 +76,7 @@ fn request<D: Disk + Drop>(
 ) -> Result<(Answer, bool), LineFault>
     requires live { (store_of pool.old).live ≡ true }
     requires sound { Sound (store_of pool.old) }
-    requires lawful { IsLine (line.Op req.now) }
+    requires lawful { IsTask (line.Op req.now) }
     ensures ended { LineEnds (line.Op req.now) (store_of pool.old) (store_of pool.new) result }
     ensures uses { LineUses (line.Op req.now) pool.old pool.new result }
     ensures same { SameStore pool.old pool.new }

@@ -2,7 +2,7 @@
 //! laws.
 ghost use Rattle.tier_tool.specs.Laws.{LaterLinesChangeNothing, RequestsMakeTheStore, TheNextRunGoesOn};
 
-use script_lang::Numbered;
+use crate::task::Numbered;
 
 /// What lines are answered does not depend on the lines behind them.
 #[tactic(auto, using(crate::proofs::Ordered::later_lines))]

@@ -13,6 +13,7 @@ mod pair;
 mod reading;
 mod run;
 mod saying;
+mod task;
 mod telling;
 mod text;
 
@@ -20,6 +21,4 @@ pub use ended::Ended;
 pub use laws::{later_lines_change_nothing, requests_make_the_store, the_next_run_goes_on};
 pub use pair::DiskPair;
 pub use run::tier_main;
-
-#[cfg(test)]
-mod tests;
+pub use task::{Numbered, Task};

@@ -2,17 +2,19 @@
 //! script to the bytes put, the status, and what a stop leaves of the base's disk.
 ghost use Rattle.std.specs.Prelude.{◌≡◌, ◌≤◌, ◌↔◌, IsTrue, All, map, string_bytes};
 ghost use Rattle.script_lang.specs.Spelling.{IsLine};
+ghost use Rattle.tier_tool.specs.Tasks.{IsTask};
 ghost use Rattle.tier_outside.specs.Causes.{Rose};
 ghost use Rattle.tier_tool.specs.Main.{AskRun, Carries, IsHandedBack, IsOnePair, IsRoom, Ran, Took, base_faults, base_moments, base_room};
-ghost use Rattle.tier_tool.specs.Telling.{RunsOn};
+ghost use Rattle.tier_tool.specs.Telling.{CarriesTasks, RunsOn};
 
 use crate::ended::{Ended, MISUSED, OUT_OF_MEMORY, SOURCE_FAILED};
 use crate::pair::DiskPair;
 use crate::reading::{Unread, read_whole};
-use crate::telling::{tell, tell_fault, tell_lines, tell_unopened};
+use crate::task::{Numbered, Untold, tasks_of};
+use crate::telling::{tell, tell_fault, tell_lines, tell_unbuilt, tell_unopened};
 use log_store::LogStore;
 use obj_model::Pool;
-use script_lang::{Numbered, ScriptFault, read_script};
+use script_lang::{ScriptFault, read_script};
 use std::alloc::Global;
 use tier_outside::{Disk, Sink, Source};
 
@@ -91,12 +93,39 @@ fn run_script<K: Sink, D: Disk + Send + Drop>(
     ensures disk_later { base_faults D.faults disks.items ≤ base_faults D.faults result.disks.items }
 {
     match read_script(alloc, script) {
-        Ok(lines) => run_lines(alloc, lines.as_slice(), out, disks),
+        Ok(lines) => run_tasks(alloc, lines, out, disks),
         Err(ScriptFault::Bad { line, cause }) => Ended {
             status: tell_fault(alloc, line, cause, out),
             disks,
         },
         Err(ScriptFault::NoMemory) => Ended {
+            status: OUT_OF_MEMORY,
+            disks,
+        },
+    }
+}
+
+// Carries the lines of a script out, if all of their verbs are built.
+fn run_tasks<K: Sink, D: Disk + Send + Drop>(
+    alloc: Global,
+    lines: Vec<script_lang::Numbered>,
+    out: &mut K,
+    disks: Vec<DiskPair<D>>,
+) -> Ended<D>
+    requires one_pair { IsOnePair disks.items }
+    requires lawful { All (λ n. IsLine n.line) lines.items }
+    ensures told { Took (K.held out.old) (K.held out.new) (λ put. CarriesTasks lines.items (base_room disks.items) (Rose (base_faults D.faults disks.items) (base_faults D.faults result.disks.items)) (Rose (K.faults out.old) (K.faults out.new)) (base_moments D.moments disks.items) (base_moments D.moments result.disks.items) put result.status) }
+    ensures back { IsHandedBack disks.items result.disks.items }
+    ensures sink_later { K.faults out.old ≤ K.faults out.new }
+    ensures disk_later { base_faults D.faults disks.items ≤ base_faults D.faults result.disks.items }
+{
+    match tasks_of(alloc, lines) {
+        Ok(tasks) => run_lines(alloc, tasks.as_slice(), out, disks),
+        Err(Untold::Unbuilt { line }) => Ended {
+            status: tell_unbuilt(alloc, line, out),
+            disks,
+        },
+        Err(Untold::NoMemory) => Ended {
             status: OUT_OF_MEMORY,
             disks,
         },
@@ -111,7 +140,7 @@ fn run_lines<K: Sink, D: Disk + Send + Drop>(
     disks: Vec<DiskPair<D>>,
 ) -> Ended<D>
     requires one_pair { IsOnePair disks.items }
-    requires lawful { All (λ n. IsLine n.line) lines.now }
+    requires lawful { All (λ n. IsTask n.line) lines.now }
     ensures told { Took (K.held out.old) (K.held out.new) (λ put. RunsOn lines.now (base_room disks.items) (Rose (base_faults D.faults disks.items) (base_faults D.faults result.disks.items)) (Rose (K.faults out.old) (K.faults out.new)) (base_moments D.moments disks.items) (base_moments D.moments result.disks.items) put result.status) }
     ensures back { IsHandedBack disks.items result.disks.items }
     ensures sink_later { K.faults out.old ≤ K.faults out.new }
@@ -148,7 +177,7 @@ fn run_on<K: Sink, D: Disk + Send + Drop>(
     room: u64,
 ) -> (u8, D)
     requires room { IsRoom room }
-    requires lawful { All (λ n. IsLine n.line) lines.now }
+    requires lawful { All (λ n. IsTask n.line) lines.now }
     ensures told { Took (K.held out.old) (K.held out.new) (λ put. RunsOn lines.now room (Rose (D.faults base) (D.faults result.1)) (Rose (K.faults out.old) (K.faults out.new)) (D.moments base) (D.moments result.1) put result.0) }
     ensures sink_later { K.faults out.old ≤ K.faults out.new }
     ensures disk_later { D.faults base ≤ D.faults result.1 }

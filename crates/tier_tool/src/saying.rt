@@ -2,7 +2,7 @@
 ghost use Rattle.std.specs.Prelude.{◌≡◌, ◌≤◌, ◌<◌, ◌+◌, ◌-◌, ◌^◌, ◌++◌, true, OnOk, decimal, codes};
 ghost use Rattle.log_store.specs.Commits.{SameStore};
 ghost use Rattle.log_store.specs.Views.{store_of};
-ghost use Rattle.script_lang.specs.Spelling.{IsLine};
+ghost use Rattle.tier_tool.specs.Tasks.{IsTask};
 ghost use Rattle.store_face.specs.Views.{Sound};
 ghost use Rattle.tier_outside.specs.Causes.{Rose};
 ghost use Rattle.tier_tool.specs.Bases.{GoesOn, acts_more, name_of};
@@ -14,7 +14,7 @@ use crate::base::{LineFault, answer};
 use crate::text::Text;
 use log_store::LogStore;
 use obj_model::{Name, NoMemory};
-use script_lang::{Line, Numbered};
+use crate::task::{Numbered, Task};
 use std::alloc::Global;
 use store_face::Store;
 use tier_outside::Disk;
@@ -37,7 +37,8 @@ pub fn say_line<D: Disk + Drop>(
     pool: &mut LogStore<D>,
 ) -> Result<(), Unsaid>
     requires live { pool.old.live ≡ true }
-    requires lawful { IsLine numbered.now.line }
+    requires sound { Sound (store_of pool.old) }
+    requires lawful { IsTask numbered.now.line }
     requires room { acts.old < 2 ^ 64 - 1 }
     ensures said { SayEnds numbered.now acts.old acts.new pool.old pool.new text.new result (Rose pool.old.faults pool.new.faults) }
     ensures sound { Sound (store_of pool.new) }
@@ -96,12 +97,12 @@ fn in_words(written: Result<(), NoMemory>) -> Result<(), Unsaid>
 }
 
 // The name that a line speaks of.
-fn name_of(line: &Line) -> &Name
+fn name_of(line: &Task) -> &Name
     ensures { result.now ≡ name_of line.now }
 {
     match line {
-        Line::Op(req) => &req.name,
-        Line::Get { name, .. } => name,
+        Task::Op(req) => &req.name,
+        Task::Get { name, .. } => name,
     }
 }
 

@@ -3,23 +3,23 @@
 ghost use Rattle.std.specs.Prelude.{◌≡◌, ◌≤◌, ◌<◌, ◌+◌, ◌-◌, ◌^◌, ◌++◌, [], ◌∷◌, true, OnOk, All};
 ghost use Rattle.log_store.specs.Commits.{SameStore};
 ghost use Rattle.log_store.specs.Views.{store_of};
-ghost use Rattle.script_lang.specs.Spelling.{IsLine};
+ghost use Rattle.tier_tool.specs.Tasks.{IsTask};
 ghost use Rattle.store_face.specs.Views.{Sound};
 ghost use Rattle.tier_outside.specs.Causes.{Rose};
 ghost use Rattle.tier_tool.specs.Bases.{GoesOn};
 ghost use Rattle.tier_tool.specs.Lines.{TellsLines};
 ghost use Rattle.tier_tool.specs.Main.{Took, Tells, MakesAndTells};
 ghost use Rattle.tier_tool.specs.Telling.{TellsLine, TellsUnopened};
-ghost use Rattle.tier_tool.specs.Texts.{fault_text, cause_word, disk_fault_text, bad_image_text, wrong_pair_text};
+ghost use Rattle.tier_tool.specs.Texts.{bad_image_text, cause_text, disk_fault_text, fault_text, unbuilt_text, wrong_pair_text};
 
 use crate::ended::{ANSWERED, DISK_FAILED, IMAGE_REFUSED, OUT_OF_MEMORY, REFUSED, SINK_FAILED};
 use crate::saying::{Unsaid, say_line};
+use crate::task::Numbered;
 use crate::text::Text;
 use log_store::{AttachFault, LogStore};
 use obj_model::NoMemory;
-use script_lang::{Cause, Numbered};
+use script_lang::Cause;
 use std::alloc::Global;
-use store_face::Store;
 use tier_outside::{Disk, Sink};
 
 /// Puts one text. The status is the one that is due where the sink takes it.
@@ -39,7 +39,19 @@ pub fn tell_fault<K: Sink>(alloc: Global, line: u32, cause: Cause, out: &mut K) 
     ensures later { K.faults out.old ≤ K.faults out.new }
 {
     let mut text = Text::new(alloc);
-    if write_fault(line, cause, &mut text).is_err() {
+    if write_fault(line, &cause, &mut text).is_err() {
+        return OUT_OF_MEMORY;
+    }
+    tell(text.as_slice(), REFUSED, out)
+}
+
+/// Puts that the verb of a line is not built yet.
+pub fn tell_unbuilt<K: Sink>(alloc: Global, line: u32, out: &mut K) -> u8
+    ensures told { Took (K.held out.old) (K.held out.new) (λ put. MakesAndTells (unbuilt_text line ∷ []) 4 (Rose (K.faults out.old) (K.faults out.new)) put result) }
+    ensures later { K.faults out.old ≤ K.faults out.new }
+{
+    let mut text = Text::new(alloc);
+    if write_unbuilt(line, &mut text).is_err() {
         return OUT_OF_MEMORY;
     }
     tell(text.as_slice(), REFUSED, out)
@@ -66,15 +78,14 @@ pub fn tell_lines<D: Disk + Drop, K: Sink>(
     out: &mut K,
 ) -> u8
     requires live { pool.old.live ≡ true }
-    requires lawful { All (λ n. IsLine n.line) lines.now }
+    requires sound { Sound (store_of pool.old) }
+    requires lawful { All (λ n. IsTask n.line) lines.now }
     ensures told { Took (K.held out.old) (K.held out.new) (λ put. TellsLines lines.now pool.old pool.new (Rose pool.old.faults pool.new.faults) (Rose (K.faults out.old) (K.faults out.new)) put result) }
     ensures same { SameStore pool.old pool.new }
     ensures goes_on { GoesOn (store_of pool.old) (store_of pool.new) }
     ensures sink_later { K.faults out.old ≤ K.faults out.new }
     ensures disk_later { pool.old.faults ≤ pool.new.faults }
 {
-    // A live store has one map, which is a fact that this call brings along.
-    let _ = pool.is_live();
     let mut text = Text::new(alloc);
     let mut acts = 0;
     for numbered in lines {
@@ -96,7 +107,8 @@ fn tell_line<D: Disk + Drop, K: Sink>(
     out: &mut K,
 ) -> Result<(), u8>
     requires live { pool.old.live ≡ true }
-    requires lawful { IsLine numbered.now.line }
+    requires sound { Sound (store_of pool.old) }
+    requires lawful { IsTask numbered.now.line }
     requires room { acts.old < 2 ^ 64 - 1 }
     ensures told { Took (K.held out.old) (K.held out.new) (λ put. TellsLine numbered.now acts.old acts.new pool.old pool.new (Rose pool.old.faults pool.new.faults) (Rose (K.faults out.old) (K.faults out.new)) put result) }
     ensures sound { Sound (store_of pool.new) }
@@ -153,13 +165,13 @@ fn tell_wrong_pair<K: Sink>(alloc: Global, found: u64, want: u64, out: &mut K) -
 }
 
 // Makes the text of a script's fault.
-fn write_fault(line: u32, cause: Cause, text: &mut Text) -> Result<(), NoMemory>
-    ensures { OnOk result (text.new ≡ text.old ++ fault_text line cause) }
+fn write_fault(line: u32, cause: &Cause, text: &mut Text) -> Result<(), NoMemory>
+    ensures { OnOk result (text.new ≡ text.old ++ fault_text line cause.now) }
 {
     text.push("script ")?;
     text.push_number(u64::from(line))?;
     text.push(" ")?;
-    text.push(cause_word(cause))?;
+    write_cause(cause, text)?;
     text.push("\n")
 }
 
@@ -191,13 +203,42 @@ fn write_wrong_pair(found: u64, want: u64, text: &mut Text) -> Result<(), NoMemo
     text.push("\n")
 }
 
-// The word of a cause.
-fn cause_word(cause: Cause) -> &'static str
-    ensures { result.now ≡ cause_word cause }
+// Puts a cause behind the text, in words.
+fn write_cause(cause: &Cause, text: &mut Text) -> Result<(), NoMemory>
+    ensures { OnOk result (text.new ≡ text.old ++ cause_text cause.now) }
 {
     match cause {
-        Cause::Unbuilt => "unbuilt",
-        Cause::Long => "long",
-        Cause::Lines => "lines",
+        Cause::LeftOut(word) => {
+            text.push("left-out ")?;
+            text.push_bytes(word.as_slice())
+        }
+        Cause::Mixed(place) => {
+            text.push("mixed ")?;
+            text.push_number(*place as u64)
+        }
+        Cause::Byte => text.push("byte"),
+        Cause::Words => text.push("words"),
+        Cause::Verb => text.push("verb"),
+        Cause::Subop => text.push("subop"),
+        Cause::Mode => text.push("mode"),
+        Cause::Number => text.push("number"),
+        Cause::Client => text.push("client"),
+        Cause::Name => text.push("name"),
+        Cause::Hex => text.push("hex"),
+        Cause::Many => text.push("many"),
+        Cause::Heavy => text.push("heavy"),
+        Cause::Time => text.push("time"),
+        Cause::Par => text.push("par"),
+        Cause::Long => text.push("long"),
+        Cause::Lines => text.push("lines"),
     }
+}
+
+// Makes the text of a line whose verb is not built yet.
+fn write_unbuilt(line: u32, text: &mut Text) -> Result<(), NoMemory>
+    ensures { OnOk result (text.new ≡ text.old ++ unbuilt_text line) }
+{
+    text.push("script ")?;
+    text.push_number(u64::from(line))?;
+    text.push(" unbuilt\n")
 }

@@ -1,33 +1,18 @@
-use Rattle.std.proofs.Common.{◌∙◌, ◌≡◌, List, ℕ, arith}
-use Rattle.gate_journal.specs.Journals.{behind_gate}
-use Rattle.gate_journal.proofs.Calls.{append_moments, append_outside, append_written, append_stands, append_standing}
+use Rattle.std.proofs.Common.{subst, List, ℕ}
+use Rattle.gate_journal.specs.Stands.{StandsAs, HoldsWithOrWithout}
+use Rattle.tier_outside.specs.DiskMoments.{Leaves}
 use Rattle.gate_journal.proofs.adding.append.Goals as goal
 
-pub returns-in_err-add_record-clause-any_moment : goal.returns-in_err-add_record-clause-any_moment
-returns-in_err-add_record-clause-any_moment g c =
-    append_moments c.args.journal.now c.args.payload.now c.as_slice.result.now _ _ (c.as_slice.ensures.value ∙ c.in_ok-body.ensures) c.requires.size (omega arith) c.in_err-add_record.ensures.any_moment
+pub returns-in_err-add-in-Ok-clause-any_moment : goal.returns-in_err-add-in-Ok-clause-any_moment
+returns-in_err-add-in-Ok-clause-any_moment g c =
+    let journal = c.args.journal.now in
+    subst (λ (payload : List ℕ). Leaves (g.D.Disk.moments c.args.disk.now) (g.D.Disk.moments c.add.new.disk)
+    (λ d image. (payloads : List (List ℕ)) → StandsAs journal payloads d → HoldsWithOrWithout journal payloads payload image))
+    c.in-Ok.ensures.payload c.in_err-add-in-Ok.ensures.any_moment
 
-pub returns-in_err-add_record-clause-outside : goal.returns-in_err-add_record-clause-outside
-returns-in_err-add_record-clause-outside g c =
-    append_outside c.args.journal.now.next c.args.payload.now c.as_slice.result.now _ _ (c.as_slice.ensures.value ∙ c.in_ok-body.ensures) c.in_err-add_record.ensures.any_moment
-
-pub returns-clause-any_moment : goal.returns-clause-any_moment
-returns-clause-any_moment g c =
-    append_moments c.args.journal.now c.args.payload.now c.as_slice.result.now _ _ (c.as_slice.ensures.value ∙ c.in_ok-body.ensures) c.requires.size (omega arith) c.in_ok-add_record.ensures.any_moment
-
-pub returns-clause-outside : goal.returns-clause-outside
-returns-clause-outside g c =
-    append_outside c.args.journal.now.next c.args.payload.now c.as_slice.result.now _ _ (c.as_slice.ensures.value ∙ c.in_ok-body.ensures) c.in_ok-add_record.ensures.any_moment
-
-pub returns-clause-written : goal.returns-clause-written
-returns-clause-written g c =
-    append_written c.args.journal.now.next c.args.payload.now c.as_slice.result.now _ _ (c.as_slice.ensures.value ∙ c.in_ok-body.ensures) c.in_ok-add_record.ensures.done
-
-pub returns-clause-stands : goal.returns-clause-stands
-returns-clause-stands g c =
-    append_stands c.args.journal.now _ c.args.payload.now c.as_slice.result.now _ _ (c.as_slice.ensures.value ∙ c.in_ok-body.ensures) c.requires.size (omega arith) c.in_ok-add_record.ensures.done
-
-pub returns-clause-standing : goal.returns-clause-standing
-returns-clause-standing g c =
-    append_standing c.args.journal.now _ c.args.payload.now _ _ _ c.requires.standing c.in_ok-add_record.ensures.any_moment
-    (append_stands c.args.journal.now _ c.args.payload.now c.as_slice.result.now _ _ (c.as_slice.ensures.value ∙ c.in_ok-body.ensures) c.requires.size (omega arith) c.in_ok-add_record.ensures.done)
+pub returns-in_ok-add-in-Ok-clause-any_moment : goal.returns-in_ok-add-in-Ok-clause-any_moment
+returns-in_ok-add-in-Ok-clause-any_moment g c =
+    let journal = c.args.journal.now in
+    subst (λ (payload : List ℕ). Leaves (g.D.Disk.moments c.args.disk.now) (g.D.Disk.moments c.add.new.disk)
+    (λ d image. (payloads : List (List ℕ)) → StandsAs journal payloads d → HoldsWithOrWithout journal payloads payload image))
+    c.in-Ok.ensures.payload c.in_ok-add-in-Ok.ensures.any_moment

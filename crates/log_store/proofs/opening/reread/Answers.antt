@@ -23,7 +23,7 @@ returns-else-other-pair-clause-read g c =
     let b = g.D.Disk.moments c.look_anew.new.disk in
     let front = subst (λ (f : Front). Now b (λ d. FrontIs role d.content f)) c.in-Headed.is c.in_ok-other.ensures.front in
     let headed = headed_now role c.in-Headed.other pair b c.if-other-pair.false front in
-    reread_holds role pair c.read.result (Rose (g.D.Disk.faults c.look_anew.new.disk) (g.D.Disk.faults c.read.new.disk)) a b c.in_ok-other.ensures.stops c.in_ok-other.ensures.restarted headed c.read.ensures.read
+    reread_holds role pair c.read_log.result (Rose (g.D.Disk.faults c.look_anew.new.disk) (g.D.Disk.faults c.read_log.new.disk)) a b c.in_ok-other.ensures.stops c.in_ok-other.ensures.restarted headed c.read_log.ensures.read
 
 pub returns-else-other-pair-clause-stands : goal.returns-else-other-pair-clause-stands
 returns-else-other-pair-clause-stands g c =
@@ -33,7 +33,7 @@ returns-else-other-pair-clause-stands g c =
     let b = g.D.Disk.moments c.look_anew.new.disk in
     let front = subst (λ (f : Front). Now b (λ d. FrontIs role d.content f)) c.in-Headed.is c.in_ok-other.ensures.front in
     let headed = headed_now role c.in-Headed.other pair b c.if-other-pair.false front in
-    reread_stands role pair c.read.result (Rose (g.D.Disk.faults c.look_anew.new.disk) (g.D.Disk.faults c.read.new.disk)) b (g.D.Disk.moments c.read.new.disk) c.read.ensures.same c.in_ok-other.ensures.settled headed c.read.ensures.read
+    reread_stands role pair c.read_log.result (Rose (g.D.Disk.faults c.look_anew.new.disk) (g.D.Disk.faults c.read_log.new.disk)) b (g.D.Disk.moments c.read_log.new.disk) c.read_log.ensures.same c.in_ok-other.ensures.settled headed c.read_log.ensures.read
 
 pub returns-else-other-pair-clause-refused : goal.returns-else-other-pair-clause-refused
 returns-else-other-pair-clause-refused g c =
@@ -43,7 +43,7 @@ returns-else-other-pair-clause-refused g c =
     let b = g.D.Disk.moments c.look_anew.new.disk in
     let front = subst (λ (f : Front). Now b (λ d. FrontIs role d.content f)) c.in-Headed.is c.in_ok-other.ensures.front in
     let headed = headed_now role c.in-Headed.other pair b c.if-other-pair.false front in
-    reread_refused role pair c.read.result (Rose (g.D.Disk.faults c.look_anew.new.disk) (g.D.Disk.faults c.read.new.disk)) (Rose (g.D.Disk.faults c.args.disk.now) (g.D.Disk.faults c.read.new.disk)) a b c.ranges.pair.fits (λ rose. omega arith) c.in_ok-other.ensures.stops c.in_ok-other.ensures.restarted headed c.read.ensures.read
+    reread_refused role pair c.read_log.result (Rose (g.D.Disk.faults c.look_anew.new.disk) (g.D.Disk.faults c.read_log.new.disk)) (Rose (g.D.Disk.faults c.args.disk.now) (g.D.Disk.faults c.read_log.new.disk)) a b c.ranges.pair.fits (λ rose. omega arith) c.in_ok-other.ensures.stops c.in_ok-other.ensures.restarted headed c.read_log.ensures.read
 
 pub returns-in-HalfOpen-clause-refused : goal.returns-in-HalfOpen-clause-refused
 returns-in-HalfOpen-clause-refused g c =

@@ -9,9 +9,9 @@ commit-requires-clause-lawful g c =
 pub returns-clause-put : goal.returns-clause-put
 returns-clause-put g c =
     rw c.line_fault.ensures (put_failed c.args.name.now c.in_ok-key.key c.from_vec-value.result c.in_ok-write_state.field-0.items c.args.state.now c.args.pool.now c.commit.new.self c.in-Err.fault
-    c.in_ok-key.ensures.key c.from_vec-value.ensures c.in_ok-write_state.ensures c.requires.sound c.requires.live c.in-Err.ensures.uses c.in-Err.ensures.committed)
+    c.in_ok-key.ensures.key c.from_vec-value.ensures c.in_ok-write_state.ensures c.requires.sound c.requires.live c.in-Err.ensures.committed)
 
 pub returns-clause-uses : goal.returns-clause-uses
 returns-clause-uses g c =
     rw c.line_fault.ensures (failed_uses c.args.name.now c.in_ok-key.key c.from_vec-value.result c.in_ok-write_state.field-0.items c.args.state.now c.args.pool.now c.commit.new.self c.in-Err.fault
-    c.in_ok-key.ensures.key c.from_vec-value.ensures c.in_ok-write_state.ensures c.in-Err.ensures.uses c.in-Err.ensures.committed)
+    c.in_ok-key.ensures.key c.from_vec-value.ensures c.in_ok-write_state.ensures c.in-Err.ensures.committed)

@@ -1,6 +1,6 @@
 use Rattle.std.proofs.Common.{refl, sym, ◌∙◌, true, false}
 use Rattle.obj_ops.specs.declared.request.Acted.TheVariants.{Again, Stale, Worn}
-use Rattle.script_lang.specs.declared.line.Line.TheVariants.{Op}
+use Rattle.tier_tool.specs.declared.task.Task.TheVariants.{Op}
 use Rattle.log_store.specs.Views.{store_of}
 use Rattle.tier_tool.specs.Bases.{LineEnds}
 use Rattle.tier_tool.specs.Rooms.{LineUses}

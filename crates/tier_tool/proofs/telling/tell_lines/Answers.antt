@@ -7,7 +7,7 @@ use Rattle.tier_tool.proofs.telling.tell_lines.Goals as goal
 
 pub loop-numbered-init : goal.loop-numbered-init
 loop-numbered-init g c = record {
-  told = ([], gains_none _, told_none _ _ c.is_live.ensures.sound c.requires.live);
+  told = ([], gains_none _, told_none _ _ c.requires.sound c.requires.live);
   few = omega arith;
   sink_later = omega arith;
   disk_later = omega arith;

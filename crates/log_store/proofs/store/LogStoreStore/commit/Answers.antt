@@ -1,120 +1,187 @@
-use Rattle.std.proofs.Common.{◌∙◌, ◌≡◌, refl, sym, ap, ap₂, subst, map, true, false, List, [], ◌∷◌, ◌++◌}
+use Rattle.std.proofs.Common.{◌∙◌, ◌≡◌, ◌+◌, ℕ, arith, refl, sym, ap, ap₂, subst, length, map, true, false, List, [], ◌∷◌, ◌++◌}
 use Rattle.obj_model.specs.declared.change.Change.{Change}
+use Rattle.tier_outside.proofs.Moments.{last_push}
 use Rattle.gate_journal.proofs.Steps.{leaves_same}
+use Rattle.gate_journal.specs.declared.journal.Journal.{Journal}
 use Rattle.rec_codec.specs.Spelling.{SpellsTxn}
 use Rattle.pool_map.specs.Pools.{PoolView, at_rest}
+use Rattle.store_face.specs.Rooms.{record_size}
 use Rattle.store_face.specs.Tables.{Table, changed_by}
-use Rattle.store_face.specs.Views.{one_map, last}
-use Rattle.log_store.specs.Inner.{sides_of}
+use Rattle.store_face.specs.Views.{alone, no_map}
+use Rattle.log_image.proofs.Lawful.{payload_size}
+use Rattle.log_store.specs.Commits.{with_changes}
+use Rattle.log_store.specs.Inner.{crash_of, held, last}
 use Rattle.log_store.specs.Views.{LogView, store_of}
-use Rattle.log_store.proofs.Commits.{Adds, both_maps, last_side, txn_short, any_moment, committed, not_committed, pushed_is, whole_after, whole_failed}
+use Rattle.log_store.proofs.Commits.{Adds, any_moment, committed, not_committed, pushed_is, refused, sound, sound_as, sound_still, torn, txn_short, whole_after, whole_failed}
 use Rattle.log_store.proofs.store.LogStoreStore.commit.Goals as goal
 
-pub returns-in_err-reserve-clause-any_moment : goal.returns-in_err-reserve-clause-any_moment
-returns-in_err-reserve-clause-any_moment g c = leaves_same _ _ _ (ap (λ (v : LogView). v.disk) c.self.view_is)
+pub returns-in_err-payload-clause-sound : goal.returns-in_err-payload-clause-sound
+returns-in_err-payload-clause-sound g c = sound_as c.args.self.now _ _ _ _ _ _ _ _ c.self.view_is c.self.invariant
 
-pub returns-in_err-copies-clause-any_moment : goal.returns-in_err-copies-clause-any_moment
-returns-in_err-copies-clause-any_moment g c = leaves_same _ _ _ (ap (λ (v : LogView). v.disk) c.self.view_is)
+pub new-requires-clause-size : goal.new-requires-clause-size
+new-requires-clause-size g c =
+    txn_short _ c.args.changes.now (subst (λ xs. SpellsTxn xs c.args.changes.now) (sym c.as_slice.ensures.value) c.in_ok-payload.ensures)
 
-pub returns-in_err-prepare-clause-any_moment : goal.returns-in_err-prepare-clause-any_moment
-returns-in_err-prepare-clause-any_moment g c = leaves_same _ _ _ (ap (λ (v : LogView). v.disk) c.self.view_is)
+pub returns-in-Err-clause-committed : goal.returns-in-Err-clause-committed
+returns-in-Err-clause-committed g c =
+    let s = c.self.inside in
+    let cs = c.args.changes.now in
+    let spells : SpellsTxn c.as_slice.result.now cs = subst (λ xs. SpellsTxn xs cs) (sym c.as_slice.ensures.value) c.in_ok-payload.ensures in
+    refused (Unit {0}) c.args.self.now c.in-Err.fault (g.D.Disk.moments s.disk) (g.D.Disk.faults s.disk) s.live s.role s.pair s.journal.end (s.journal.next + 1) (map crash_of s.past.items)
+    c.as_slice.result.now cs c.self.view_is spells c.in-Err.ensures.answer
 
-pub append-requires-clause-size : goal.append-requires-clause-size
-append-requires-clause-size g c = txn_short _ c.args.changes.now (subst (λ xs. SpellsTxn xs c.args.changes.now) (sym c.as_slice.ensures.value) c.in_ok-payload.ensures)
+pub returns-in-Err-clause-sound : goal.returns-in-Err-clause-sound
+returns-in-Err-clause-sound g c = sound_as c.args.self.now _ _ _ _ _ _ _ _ c.self.view_is c.self.invariant
 
-pub invariant_of-self-in-Ok : goal.invariant_of-self-in-Ok
-invariant_of-self-in-Ok g c =
+pub returns-in_err-reserve-in-Ok-clause-sound : goal.returns-in_err-reserve-in-Ok-clause-sound
+returns-in_err-reserve-in-Ok-clause-sound g c =
+    let s = c.self.inside in
+    sound_still s.role s.pair s.journal s.pool s.live (g.D.Disk.moments s.disk) (map crash_of s.past.items) (map crash_of c.reserve.new.self.items)
+    (g.D.Disk.faults s.disk) s.journal.end (ap (map crash_of) c.reserve.ensures.items) c.self.invariant
+
+pub returns-in_err-reserve-in-Ok-clause-any_moment : goal.returns-in_err-reserve-in-Ok-clause-any_moment
+returns-in_err-reserve-in-Ok-clause-any_moment g c = leaves_same _ _ _ (ap (λ (v : LogView). v.disk) c.self.view_is)
+
+pub returns-in_err-copies-in-Ok-clause-sound : goal.returns-in_err-copies-in-Ok-clause-sound
+returns-in_err-copies-in-Ok-clause-sound g c =
+    let s = c.self.inside in
+    sound_still s.role s.pair s.journal s.pool s.live (g.D.Disk.moments s.disk) (map crash_of s.past.items) (map crash_of c.reserve.new.self.items)
+    (g.D.Disk.faults s.disk) s.journal.end (ap (map crash_of) c.reserve.ensures.items) c.self.invariant
+
+pub returns-in_err-copies-in-Ok-clause-any_moment : goal.returns-in_err-copies-in-Ok-clause-any_moment
+returns-in_err-copies-in-Ok-clause-any_moment g c = leaves_same _ _ _ (ap (λ (v : LogView). v.disk) c.self.view_is)
+
+pub returns-in_err-prepare-in-Ok-clause-sound : goal.returns-in_err-prepare-in-Ok-clause-sound
+returns-in_err-prepare-in-Ok-clause-sound g c =
+    let s = c.self.inside in
+    sound_still s.role s.pair s.journal s.pool s.live (g.D.Disk.moments s.disk) (map crash_of s.past.items) (map crash_of c.reserve.new.self.items)
+    (g.D.Disk.faults s.disk) s.journal.end (ap (map crash_of) c.reserve.ensures.items) c.self.invariant
+
+pub returns-in_err-prepare-in-Ok-clause-any_moment : goal.returns-in_err-prepare-in-Ok-clause-any_moment
+returns-in_err-prepare-in-Ok-clause-any_moment g c = leaves_same _ _ _ (ap (λ (v : LogView). v.disk) c.self.view_is)
+
+pub add-requires-clause-size : goal.add-requires-clause-size
+add-requires-clause-size g c =
+    txn_short c.in-Ok.more c.args.changes.now
+    (subst (λ xs. SpellsTxn xs c.args.changes.now) (sym (c.in-Ok.ensures.payload ∙ c.as_slice.ensures.value)) c.in_ok-payload.ensures)
+
+pub invariant_of-self-in-Ok-add : goal.invariant_of-self-in-Ok-add
+invariant_of-self-in-Ok-add g c =
     let s = c.self.inside in
     let t = s.pool.table in
     let cs = c.args.changes.now in
     let lives : s.live ≡ true = ap (λ (v : LogView). v.live) c.self.view_is ∙ c.requires.live in
-    let spells : SpellsTxn c.as_slice.result.now cs = subst (λ xs. SpellsTxn xs cs) (sym c.as_slice.ensures.value) c.in_ok-payload.ensures in
-    let ready : c.prepare.new.self.ready ≡ cs = c.in_ok-prepare.ensures.ready ∙ c.in_ok-copies.ensures in
-    let pushed : map sides_of c.change.new.past.items ≡ map sides_of s.past.items ++ both_maps t cs ∷ [] =
-    pushed_is (map sides_of s.past.items) (map sides_of c.reserve.new.self.items) (map sides_of c.change.new.past.items) t c.prepare.new.self.table cs c.prepare.new.self.ready
-    (ap (map sides_of) c.reserve.ensures.items) c.in_ok-prepare.ensures.same ready c.change.ensures.past in
-    let changes : c.change.new.pool ≡ at_rest (changed_by t cs) = c.change.ensures.pool ∙ ap₂ (λ (x : Table) (y : List Change). at_rest (changed_by x y)) c.in_ok-prepare.ensures.same ready in
-    let again : map sides_of c.settle.new.past.items ≡ map sides_of c.change.new.past.items ++ one_map (changed_by t cs) ∷ [] =
-    c.settle.ensures ∙ ap (λ (x : PoolView). map sides_of c.change.new.past.items ++ one_map x.table ∷ []) changes in
-    whole_after s.role s.pair s.room s.journal c.append.new.journal c.change.new.pool s.live (g.D.Disk.moments s.disk) (g.D.Disk.moments c.append.new.disk)
-    (Adds s.journal c.as_slice.result.now) (map sides_of c.settle.new.past.items) t c.as_slice.result.now cs c.self.invariant.journal_is c.self.invariant.roomy c.in-Ok.ensures.moved
-    c.in-Ok.ensures.answer changes (c.self.invariant.stands lives) spells c.in-Ok.ensures.any_moment c.in-Ok.ensures.stands
-    (ap last again ∙ last_side (map sides_of c.change.new.past.items) (one_map (changed_by t cs)))
+    let spells : SpellsTxn c.in-Ok.more cs =
+    subst (λ xs. SpellsTxn xs cs) (sym (c.in-Ok.ensures.payload ∙ c.as_slice.ensures.value)) c.in_ok-payload.ensures in
+    let size : c.len.result + 5 ≡ record_size cs =
+    omega (arith, c.len.ensures, payload_size c.in_ok-payload.payload.items cs c.in_ok-payload.ensures) in
+    let ready : c.prepare.new.self.ready ≡ cs = c.in_ok-prepare-in-Ok.ensures.ready ∙ c.in_ok-copies-in-Ok.ensures in
+    let pushed : map crash_of c.change.new.past.items ≡ map crash_of s.past.items ++ torn cs (held s.journal t) ∷ [] =
+    pushed_is (map crash_of s.past.items) (map crash_of c.reserve.new.self.items) (map crash_of c.change.new.past.items) t c.prepare.new.self.table cs c.prepare.new.self.ready _ _
+    (ap (map crash_of) c.reserve.ensures.items) c.in_ok-prepare-in-Ok.ensures.same ready (omega (arith, size)) c.change.ensures.past in
+    let changes : c.change.new.pool ≡ at_rest (changed_by t cs) =
+    c.change.ensures.pool ∙ ap₂ (λ (x : Table) (y : List Change). at_rest (changed_by x y)) c.in_ok-prepare-in-Ok.ensures.same ready in
+    let place : s.journal.next + 1 + c.len.result + 5 ≡ c.add.new.journal.next + 1 =
+    omega (arith, size, payload_size c.in-Ok.more cs spells, ap (λ (j : Journal). j.next) c.in-Ok-add.ensures.moved) in
+    let now : last (map crash_of c.settle.new.past.items) ≡ alone (held c.add.new.journal (changed_by t cs)) =
+    ap last c.settle.ensures ∙ last_push no_map (map crash_of c.change.new.past.items) _
+    ∙ ap₂ (λ (x : PoolView) (n : ℕ). alone (record { table = x.table; used = n })) changes place in
+    whole_after s.role s.pair s.journal c.add.new.journal c.change.new.pool s.live (g.D.Disk.moments s.disk) (g.D.Disk.moments c.add.new.disk)
+    (Adds s.journal c.in-Ok.more) (map crash_of c.settle.new.past.items) t c.in-Ok.more cs c.self.invariant.journal_is c.in-Ok-add.ensures.moved
+    (omega (arith, c.in-Ok.ensures.answer, ap length c.in-Ok.ensures.payload)) changes (c.self.invariant.stands lives) spells c.in-Ok-add.ensures.any_moment c.in-Ok-add.ensures.stands now
 
-pub returns-in-Ok-clause-committed : goal.returns-in-Ok-clause-committed
-returns-in-Ok-clause-committed g c =
+pub returns-in-Ok-add-clause-committed : goal.returns-in-Ok-add-clause-committed
+returns-in-Ok-add-clause-committed g c =
     let s = c.self.inside in
     let t = s.pool.table in
     let cs = c.args.changes.now in
     let lives : s.live ≡ true = ap (λ (v : LogView). v.live) c.self.view_is ∙ c.requires.live in
-    let spells : SpellsTxn c.as_slice.result.now cs = subst (λ xs. SpellsTxn xs cs) (sym c.as_slice.ensures.value) c.in_ok-payload.ensures in
-    let ready : c.prepare.new.self.ready ≡ cs = c.in_ok-prepare.ensures.ready ∙ c.in_ok-copies.ensures in
-    let pushed : map sides_of c.change.new.past.items ≡ map sides_of s.past.items ++ both_maps t cs ∷ [] =
-    pushed_is (map sides_of s.past.items) (map sides_of c.reserve.new.self.items) (map sides_of c.change.new.past.items) t c.prepare.new.self.table cs c.prepare.new.self.ready
-    (ap (map sides_of) c.reserve.ensures.items) c.in_ok-prepare.ensures.same ready c.change.ensures.past in
-    let changes : c.change.new.pool ≡ at_rest (changed_by t cs) = c.change.ensures.pool ∙ ap₂ (λ (x : Table) (y : List Change). at_rest (changed_by x y)) c.in_ok-prepare.ensures.same ready in
-    let again : map sides_of c.settle.new.past.items ≡ map sides_of c.change.new.past.items ++ one_map (changed_by t cs) ∷ [] =
-    c.settle.ensures ∙ ap (λ (x : PoolView). map sides_of c.change.new.past.items ++ one_map x.table ∷ []) changes in
-    committed (store_of c.args.self.now) (g.D.Disk.moments s.disk) (g.D.Disk.moments c.append.new.disk) (Adds s.journal c.as_slice.result.now) (map sides_of s.past.items)
-    (map sides_of c.change.new.past.items) (map sides_of c.settle.new.past.items) t cs s.live s.live (g.D.Disk.faults s.disk) (g.D.Disk.faults c.append.new.disk)
-    (ap store_of c.self.view_is) c.in-Ok.ensures.any_moment (c.self.invariant.one lives) pushed again lives c.in-Ok.ensures.later
+    let spells : SpellsTxn c.in-Ok.more cs =
+    subst (λ xs. SpellsTxn xs cs) (sym (c.in-Ok.ensures.payload ∙ c.as_slice.ensures.value)) c.in_ok-payload.ensures in
+    let size : c.len.result + 5 ≡ record_size cs =
+    omega (arith, c.len.ensures, payload_size c.in_ok-payload.payload.items cs c.in_ok-payload.ensures) in
+    let ready : c.prepare.new.self.ready ≡ cs = c.in_ok-prepare-in-Ok.ensures.ready ∙ c.in_ok-copies-in-Ok.ensures in
+    let pushed : map crash_of c.change.new.past.items ≡ map crash_of s.past.items ++ torn cs (held s.journal t) ∷ [] =
+    pushed_is (map crash_of s.past.items) (map crash_of c.reserve.new.self.items) (map crash_of c.change.new.past.items) t c.prepare.new.self.table cs c.prepare.new.self.ready _ _
+    (ap (map crash_of) c.reserve.ensures.items) c.in_ok-prepare-in-Ok.ensures.same ready (omega (arith, size)) c.change.ensures.past in
+    let changes : c.change.new.pool ≡ at_rest (changed_by t cs) =
+    c.change.ensures.pool ∙ ap₂ (λ (x : Table) (y : List Change). at_rest (changed_by x y)) c.in_ok-prepare-in-Ok.ensures.same ready in
+    let again : map crash_of c.settle.new.past.items ≡ map crash_of c.change.new.past.items ++ alone (with_changes cs (held s.journal t)) ∷ [] =
+    c.settle.ensures ∙ ap₂ (λ (x : PoolView) (n : ℕ). map crash_of c.change.new.past.items ++ alone (record { table = x.table; used = n }) ∷ []) changes (omega (arith, size)) in
+    committed (store_of c.args.self.now) (g.D.Disk.moments s.disk) (g.D.Disk.moments c.add.new.disk) (Adds s.journal c.in-Ok.more) (map crash_of s.past.items)
+    (map crash_of c.change.new.past.items) (map crash_of c.settle.new.past.items) (held s.journal t) cs s.live s.live (g.D.Disk.faults s.disk) (g.D.Disk.faults c.add.new.disk)
+    s.journal.end c.add.new.journal.end (s.journal.next + 1) (c.add.new.journal.next + 1)
+    (ap store_of c.self.view_is) c.in-Ok-add.ensures.any_moment (c.self.invariant.one lives) pushed again lives c.in-Ok-add.ensures.cause.later
+    (omega (arith, payload_size c.in-Ok.more cs spells, c.in-Ok.ensures.answer, ap length c.in-Ok.ensures.payload)) (ap (λ (j : Journal). j.end) c.in-Ok-add.ensures.moved)
+    (omega (arith, payload_size c.in-Ok.more cs spells, ap (λ (j : Journal). j.next) c.in-Ok-add.ensures.moved))
 
-pub returns-in-Ok-clause-any_moment : goal.returns-in-Ok-clause-any_moment
-returns-in-Ok-clause-any_moment g c =
+pub returns-in-Ok-add-clause-sound : goal.returns-in-Ok-add-clause-sound
+returns-in-Ok-add-clause-sound g c =
+    sound _ _ _ _ c.self.inside.live (g.D.Disk.moments c.add.new.disk) (map crash_of c.settle.new.past.items)
+    (g.D.Disk.faults c.add.new.disk) c.add.new.journal.end (invariant_of-self-in-Ok-add g c)
+
+pub returns-in-Ok-add-clause-any_moment : goal.returns-in-Ok-add-clause-any_moment
+returns-in-Ok-add-clause-any_moment g c =
     let s = c.self.inside in
     let t = s.pool.table in
     let cs = c.args.changes.now in
     let lives : s.live ≡ true = ap (λ (v : LogView). v.live) c.self.view_is ∙ c.requires.live in
-    let spells : SpellsTxn c.as_slice.result.now cs = subst (λ xs. SpellsTxn xs cs) (sym c.as_slice.ensures.value) c.in_ok-payload.ensures in
-    any_moment c.args.self.now (g.D.Disk.moments s.disk) (g.D.Disk.moments c.append.new.disk) (g.D.Disk.faults s.disk) s.live s.role s.pair s.room s.journal (map sides_of s.past.items) t
-    c.as_slice.result.now cs c.self.view_is (c.self.invariant.one lives) (c.self.invariant.stands lives) c.self.invariant.journal_is spells c.in-Ok.ensures.any_moment
+    let spells : SpellsTxn c.in-Ok.more cs =
+    subst (λ xs. SpellsTxn xs cs) (sym (c.in-Ok.ensures.payload ∙ c.as_slice.ensures.value)) c.in_ok-payload.ensures in
+    any_moment c.args.self.now (g.D.Disk.moments s.disk) (g.D.Disk.moments c.add.new.disk) (g.D.Disk.faults s.disk) s.live s.role s.pair s.journal.end s.journal (map crash_of s.past.items) t
+    c.in-Ok.more cs c.self.view_is (c.self.invariant.one lives) (c.self.invariant.stands lives) c.self.invariant.journal_is spells c.in-Ok-add.ensures.any_moment
 
-pub invariant_of-self-in-Err-Disk : goal.invariant_of-self-in-Err-Disk
-invariant_of-self-in-Err-Disk g c =
+pub invariant_of-self-in-Err-add : goal.invariant_of-self-in-Err-add
+invariant_of-self-in-Err-add g c =
     let s = c.self.inside in
     let t = s.pool.table in
     let cs = c.args.changes.now in
     let lives : s.live ≡ true = ap (λ (v : LogView). v.live) c.self.view_is ∙ c.requires.live in
-    let spells : SpellsTxn c.as_slice.result.now cs = subst (λ xs. SpellsTxn xs cs) (sym c.as_slice.ensures.value) c.in_ok-payload.ensures in
-    let ready : c.prepare.new.self.ready ≡ cs = c.in_ok-prepare.ensures.ready ∙ c.in_ok-copies.ensures in
-    let pushed : map sides_of c.change-in-Err-Disk.new.past.items ≡ map sides_of s.past.items ++ both_maps t cs ∷ [] =
-    pushed_is (map sides_of s.past.items) (map sides_of c.reserve.new.self.items) (map sides_of c.change-in-Err-Disk.new.past.items) t c.prepare.new.self.table cs c.prepare.new.self.ready
-    (ap (map sides_of) c.reserve.ensures.items) c.in_ok-prepare.ensures.same ready c.change-in-Err-Disk.ensures.past in
-    let changes : c.change-in-Err-Disk.new.pool ≡ at_rest (changed_by t cs) = c.change-in-Err-Disk.ensures.pool ∙ ap₂ (λ (x : Table) (y : List Change). at_rest (changed_by x y)) c.in_ok-prepare.ensures.same ready in
-    whole_failed s.role s.pair s.room s.journal c.append.new.journal c.change-in-Err-Disk.new.pool (g.D.Disk.moments s.disk) (g.D.Disk.moments c.append.new.disk)
-    (map sides_of c.change-in-Err-Disk.new.past.items) t (changed_by t cs) c.as_slice.result.now cs c.self.invariant.journal_is c.self.invariant.roomy c.in-Err-Disk.ensures.kept
-    changes (c.self.invariant.stands lives) spells c.in-Err-Disk.ensures.any_moment (ap last pushed ∙ last_side (map sides_of s.past.items) (both_maps t cs))
+    let spells : SpellsTxn c.in-Ok.more cs =
+    subst (λ xs. SpellsTxn xs cs) (sym (c.in-Ok.ensures.payload ∙ c.as_slice.ensures.value)) c.in_ok-payload.ensures in
+    let size : c.len.result + 5 ≡ record_size cs =
+    omega (arith, c.len.ensures, payload_size c.in_ok-payload.payload.items cs c.in_ok-payload.ensures) in
+    let ready : c.prepare.new.self.ready ≡ cs = c.in_ok-prepare-in-Ok.ensures.ready ∙ c.in_ok-copies-in-Ok.ensures in
+    let pushed : map crash_of c.change-in-Err-add.new.past.items ≡ map crash_of s.past.items ++ torn cs (held s.journal t) ∷ [] =
+    pushed_is (map crash_of s.past.items) (map crash_of c.reserve.new.self.items) (map crash_of c.change-in-Err-add.new.past.items) t c.prepare.new.self.table cs c.prepare.new.self.ready _ _
+    (ap (map crash_of) c.reserve.ensures.items) c.in_ok-prepare-in-Ok.ensures.same ready (omega (arith, size)) c.change-in-Err-add.ensures.past in
+    let changes : c.change-in-Err-add.new.pool ≡ at_rest (changed_by t cs) =
+    c.change-in-Err-add.ensures.pool ∙ ap₂ (λ (x : Table) (y : List Change). at_rest (changed_by x y)) c.in_ok-prepare-in-Ok.ensures.same ready in
+    whole_failed s.role s.pair s.journal c.add.new.journal c.change-in-Err-add.new.pool (g.D.Disk.moments s.disk) (g.D.Disk.moments c.add.new.disk)
+    (map crash_of c.change-in-Err-add.new.past.items) t (changed_by t cs) c.in-Ok.more cs c.self.invariant.journal_is c.in-Err-add.ensures.kept
+    changes (c.self.invariant.stands lives) spells c.in-Err-add.ensures.any_moment
+    (ap last pushed ∙ last_push no_map (map crash_of s.past.items) (torn cs (held s.journal t)))
 
-pub returns-in-Err-Disk-clause-committed : goal.returns-in-Err-Disk-clause-committed
-returns-in-Err-Disk-clause-committed g c =
+pub returns-clause-committed : goal.returns-clause-committed
+returns-clause-committed g c =
     let s = c.self.inside in
     let t = s.pool.table in
     let cs = c.args.changes.now in
     let lives : s.live ≡ true = ap (λ (v : LogView). v.live) c.self.view_is ∙ c.requires.live in
-    let spells : SpellsTxn c.as_slice.result.now cs = subst (λ xs. SpellsTxn xs cs) (sym c.as_slice.ensures.value) c.in_ok-payload.ensures in
-    let ready : c.prepare.new.self.ready ≡ cs = c.in_ok-prepare.ensures.ready ∙ c.in_ok-copies.ensures in
-    let pushed : map sides_of c.change-in-Err-Disk.new.past.items ≡ map sides_of s.past.items ++ both_maps t cs ∷ [] =
-    pushed_is (map sides_of s.past.items) (map sides_of c.reserve.new.self.items) (map sides_of c.change-in-Err-Disk.new.past.items) t c.prepare.new.self.table cs c.prepare.new.self.ready
-    (ap (map sides_of) c.reserve.ensures.items) c.in_ok-prepare.ensures.same ready c.change-in-Err-Disk.ensures.past in
-    let changes : c.change-in-Err-Disk.new.pool ≡ at_rest (changed_by t cs) = c.change-in-Err-Disk.ensures.pool ∙ ap₂ (λ (x : Table) (y : List Change). at_rest (changed_by x y)) c.in_ok-prepare.ensures.same ready in
-    let answer = rw c.in-Err-Disk.field-0-is at c.in-Err-Disk.ensures.answer in
-    not_committed (store_of c.args.self.now) (g.D.Disk.moments s.disk) (g.D.Disk.moments c.append.new.disk) (Adds s.journal c.as_slice.result.now) (map sides_of s.past.items)
-    (map sides_of c.change-in-Err-Disk.new.past.items) t cs s.live false (g.D.Disk.faults s.disk) (g.D.Disk.faults c.append.new.disk)
-    (ap store_of c.self.view_is) c.in-Err-Disk.ensures.any_moment (c.self.invariant.one lives) pushed refl answer.1 c.in-Err-Disk.ensures.later
+    let spells : SpellsTxn c.in-Ok.more cs =
+    subst (λ xs. SpellsTxn xs cs) (sym (c.in-Ok.ensures.payload ∙ c.as_slice.ensures.value)) c.in_ok-payload.ensures in
+    let size : c.len.result + 5 ≡ record_size cs =
+    omega (arith, c.len.ensures, payload_size c.in_ok-payload.payload.items cs c.in_ok-payload.ensures) in
+    let ready : c.prepare.new.self.ready ≡ cs = c.in_ok-prepare-in-Ok.ensures.ready ∙ c.in_ok-copies-in-Ok.ensures in
+    let pushed : map crash_of c.change-in-Err-add.new.past.items ≡ map crash_of s.past.items ++ torn cs (held s.journal t) ∷ [] =
+    pushed_is (map crash_of s.past.items) (map crash_of c.reserve.new.self.items) (map crash_of c.change-in-Err-add.new.past.items) t c.prepare.new.self.table cs c.prepare.new.self.ready _ _
+    (ap (map crash_of) c.reserve.ensures.items) c.in_ok-prepare-in-Ok.ensures.same ready (omega (arith, size)) c.change-in-Err-add.ensures.past in
+    let changes : c.change-in-Err-add.new.pool ≡ at_rest (changed_by t cs) =
+    c.change-in-Err-add.ensures.pool ∙ ap₂ (λ (x : Table) (y : List Change). at_rest (changed_by x y)) c.in_ok-prepare-in-Ok.ensures.same ready in
+    not_committed (store_of c.args.self.now) (g.D.Disk.moments s.disk) (g.D.Disk.moments c.add.new.disk) (Adds s.journal c.in-Ok.more) (map crash_of s.past.items)
+    (map crash_of c.change-in-Err-add.new.past.items) (held s.journal t) cs s.live false (g.D.Disk.faults s.disk) (g.D.Disk.faults c.add.new.disk)
+    s.journal.end c.add.new.journal.end (s.journal.next + 1) (c.add.new.journal.next + 1)
+    (ap store_of c.self.view_is) c.in-Err-add.ensures.any_moment (c.self.invariant.one lives) pushed refl c.in-Err-add.ensures.cause.failed c.in-Err-add.ensures.cause.later
+    (omega (arith, payload_size c.in-Ok.more cs spells, c.in-Ok.ensures.answer, ap length c.in-Ok.ensures.payload)) (ap (λ (j : Journal). j.end) c.in-Err-add.ensures.kept)
+    (omega (arith, ap (λ (j : Journal). j.next) c.in-Err-add.ensures.kept))
 
-pub returns-in-Err-Disk-clause-any_moment : goal.returns-in-Err-Disk-clause-any_moment
-returns-in-Err-Disk-clause-any_moment g c =
+pub returns-clause-any_moment : goal.returns-clause-any_moment
+returns-clause-any_moment g c =
     let s = c.self.inside in
     let t = s.pool.table in
     let cs = c.args.changes.now in
     let lives : s.live ≡ true = ap (λ (v : LogView). v.live) c.self.view_is ∙ c.requires.live in
-    let spells : SpellsTxn c.as_slice.result.now cs = subst (λ xs. SpellsTxn xs cs) (sym c.as_slice.ensures.value) c.in_ok-payload.ensures in
-    any_moment c.args.self.now (g.D.Disk.moments s.disk) (g.D.Disk.moments c.append.new.disk) (g.D.Disk.faults s.disk) s.live s.role s.pair s.room s.journal (map sides_of s.past.items) t
-    c.as_slice.result.now cs c.self.view_is (c.self.invariant.one lives) (c.self.invariant.stands lives) c.self.invariant.journal_is spells c.in-Err-Disk.ensures.any_moment
-
-pub returns-in-Err-NoMemory-clause-any_moment : goal.returns-in-Err-NoMemory-clause-any_moment
-returns-in-Err-NoMemory-clause-any_moment g c =
-    let answer = rw c.in-Err-NoMemory.field-0-is at c.in-Err-NoMemory.ensures.answer in
-    let same : g.D.Disk.moments c.append.new.disk ≡ g.D.Disk.moments c.self.inside.disk = answer.1.0 in
-    let seen : g.D.Disk.moments c.self.inside.disk ≡ c.args.self.now.disk = ap (λ (v : LogView). v.disk) c.self.view_is in
-    leaves_same _ _ _ (same ∙ seen)
+    let spells : SpellsTxn c.in-Ok.more cs =
+    subst (λ xs. SpellsTxn xs cs) (sym (c.in-Ok.ensures.payload ∙ c.as_slice.ensures.value)) c.in_ok-payload.ensures in
+    any_moment c.args.self.now (g.D.Disk.moments s.disk) (g.D.Disk.moments c.add.new.disk) (g.D.Disk.faults s.disk) s.live s.role s.pair s.journal.end s.journal (map crash_of s.past.items) t
+    c.in-Ok.more cs c.self.view_is (c.self.invariant.one lives) (c.self.invariant.stands lives) c.self.invariant.journal_is spells c.in-Err-add.ensures.any_moment

@@ -1,0 +1,8 @@
+use Rattle.log_store.proofs.Commits.{sound_as}
+use Rattle.log_store.proofs.store.LogStoreStore.keys_after.Goals as goal
+
+pub returns-clause-sound : goal.returns-clause-sound
+returns-clause-sound g c = sound_as c.args.self.now _ _ _ _ _ _ _ _ c.self.view_is c.self.invariant
+
+pub returns-in_err-keys_after-clause-sound : goal.returns-in_err-keys_after-clause-sound
+returns-in_err-keys_after-clause-sound g c = sound_as c.args.self.now _ _ _ _ _ _ _ _ c.self.view_is c.self.invariant
