@@ -1,0 +1,2 @@
+//! The protocol between the two pools.
+#![tactic(auto)]
