@@ -87,7 +87,7 @@ read t e op k v h on =
     replied t (BaseReply.Looked e op (look (state_of t.base k) v)) h (h.memory.wire.sent (BaseMsg.Look e op k v) on) (h.epochs.known (BaseMsg.Look e op k v) on)
     (λ n. λ now list r f is same.
     let own : (k ≡ n) × ((q : ReadFlight) → IsIn q list → q.opid ≡ op → q.vector ≡ v) =
-        subst (λ y. IsFor n y (BaseMsg.Look e op k v)) f ((h.memory.each n).own (BaseMsg.Look e op k v) on now (subst (λ y. HasOpid y op) (sym f) (r, is, sym same))) in
+    subst (λ y. IsFor n y (BaseMsg.Look e op k v)) f ((h.memory.each n).own (BaseMsg.Look e op k v) on now (subst (λ y. HasOpid y op) (sym f) (r, is, sym same))) in
     ap (λ m. look (state_of t.base m) v) own.0 ∙ ap (look (state_of t.base n)) (sym (own.1 r is same)))
 
 -- A Write that acts meets no record, and either its own work or none.

@@ -6,3 +6,7 @@ pub mod Names
 pub mod Places
 pub mod Delivers
 pub mod Steps
+pub mod Truth
+pub mod Worlds
+pub mod Fits
+pub mod Owners

@@ -66,7 +66,7 @@ keep_covers r q given seen true e keeps newer =
     let same : r.client ≡ q.client = eqb-true r.client q.client e in
     let lower : r.tid < q.tid = lower_tid r q (kept_of q.client seen) (subst (λ c. Keeps (kept_of c seen) r.tid) same keeps) newer in
     let there : Keeps (kept_of q.client (keep (kept_with q given) seen)) r.tid =
-        subst (λ k. Keeps k r.tid) (sym (kept_of-keep_same (kept_with q given) seen)) (omega arith) in
+    subst (λ k. Keeps k r.tid) (sym (kept_of-keep_same (kept_with q given) seen)) (omega arith) in
     subst (λ c. Keeps (kept_of c (keep (kept_with q given) seen)) r.tid) (sym same) there
 keep_covers r q given seen false e keeps newer =
     subst (λ k. Keeps k r.tid) (sym (kept_of-keep_other r.client (kept_with q given) seen (eqb-false r.client q.client e))) keeps

@@ -90,7 +90,7 @@ ActedIsSpent =
     → IsIn (BaseMsg.Write e op r) t.net.wire → e ≡ t.net.base_epoch
     → act (state_of t.base r.name) r ≡ Fresh s answer
     → IsSpent r.name (cell_of (delivered (BaseMsg.Write e op r) t) r.name)
-        (delivered (BaseMsg.Write e op r) t).net r
+    (delivered (BaseMsg.Write e op r) t).net r
 
 -- no message takes a state of the base back to one that has had fewer requests: an Install that later
 -- writes overtook comes to nothing

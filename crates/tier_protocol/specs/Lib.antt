@@ -3,3 +3,7 @@ pub mod Memory
 pub mod Sound
 pub mod Moves
 pub mod Laws
+pub mod Answers
+pub mod Doubts
+pub mod Fitting
+pub mod Owners

@@ -101,7 +101,7 @@ IsSpent n c net r =
     (c.base.seq ≡ 2 ^ 62)
     ⊎ (Covers c.base r × Covers c.plain r
     × ((e op : ℕ) (t : NameState) → IsIn (BaseMsg.Install e op n t) net.wire → c.base.seq < t.seq
-        → Covers t r))
+    → Covers t r))
 
 -- the request is under way, whoever waits for it
 abbrev pub IsWriting : Option Flight → Req → Type 0

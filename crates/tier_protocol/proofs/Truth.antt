@@ -14,10 +14,10 @@ use Rattle.tier_types.specs.Flights.{is_bare}
 use Rattle.tier_types.specs.Serving.{Served, lasting, name_in, put_by, told_of, epoch_in}
 use Rattle.tier_protocol.specs.Tiers.{Name, Flight, BaseMsg, BaseReply, BaseActed, Phase, Net, Tier, Cell, IsIn, cell_of}
 use Rattle.tier_protocol.specs.Sound.{Covers, IsHarmless, IsSound, IsSpent, IsWriting, is_dirty}
-use Rattle.tier_protocol.specs.Moves.{acts_with, delivered, put_at, with_base}
-use Rattle.tier_protocol.specs.Answers.{is_fence, ActsAreFresh, BaseNeverFalls, ChunksArePresent, EvictedStays, FlightsAreFenced, LateWritesChangeNothing, NoneIsAhead, OldAreRefused, ReadsAreTrue, WritesAreTrue}
+use Rattle.tier_protocol.specs.Moves.{acts_with, delivered, put_at, with_act, with_base, with_served}
+use Rattle.tier_protocol.specs.Answers.{is_fence, ActedIsSpent, ActsAreFresh, BaseNeverFalls, ChunksArePresent, EvictedStays, FlightsAreFenced, LateWritesChangeNothing, NoneIsAhead, OldAreRefused, ReadsAreTrue, WritesAreTrue}
 use Rattle.tier_protocol.proofs.Requests.{covered_not_fresh, fresh_covers, fresh_room, fresh_seq}
-use Rattle.tier_protocol.proofs.Cells.{base_here, base_there, get_here, names_by}
+use Rattle.tier_protocol.proofs.Cells.{act_here, base_here, base_there, names_by}
 use Rattle.tier_protocol.proofs.Steps.{shown}
 use Rattle.tier_protocol.proofs.Delivers.{acts_on_plain, flies, in_epoch_by}
 
@@ -108,3 +108,28 @@ base_never_falls t m n h on = by m on
 
 pub evicted_stays : EvictedStays
 evicted_stays t k r h may rec = (h.names k).clean may.clean ∙ sym (shown t k r h rec)
+
+pub acted_spent : ActedIsSpent
+acted_spent t e op r s answer h on same acts =
+    in_epoch_by (λ x. IsSpent r.name (cell_of (with_served (BaseMsg.Write e op r) x t) r.name) (with_served (BaseMsg.Write e op r) x t).net r) t.net.base_epoch e _ (omega (arith, same))
+    (λ lt. absurd (omega (arith, lt, same)))
+    (λ now. subst (λ a. IsSpent r.name (cell_of (with_served (BaseMsg.Write e op r) (wrote a) t) r.name) (with_served (BaseMsg.Write e op r) (wrote a) t).net r) (sym acts) there)
+  where
+    wrote : Acted → Served
+    wrote a = record { epoch = t.net.base_epoch; put = put_by a; reply = BaseReply.Wrote e op (told_of a) }
+
+    next : Net
+    next = record t.net { replies = BaseReply.Wrote e op (BaseActed.Fresh answer) ∷ t.net.replies }
+
+    on_plain : act (cell_of t r.name).plain r ≡ Fresh s answer
+    on_plain = acts_on_plain t e op r s answer h on same acts
+
+    cell : cell_of (with_act r (with_base r.name s t)) r.name ≡ record (cell_of t r.name) { base = s; plain = s }
+    cell = act_here (with_base r.name s t) r s answer on_plain ∙ ap {A = Cell} {B = Cell} (λ c. record c { plain = s }) (base_here t r.name s)
+
+    none_above : (i o : ℕ) (x : NameState) → IsIn (BaseMsg.Install i o r.name x) t.net.wire → s.seq < x.seq → Covers x r
+    none_above i o x is above =
+        absurd (omega (arith, above, ((h.names r.name).installs i o x is).behind, fresh_seq (cell_of t r.name).plain r s answer on_plain))
+
+    there : IsSpent r.name (cell_of (with_act r (with_base r.name s t)) r.name) next r
+    there = subst (λ c. IsSpent r.name c next r) (sym cell) (inr (fresh_covers (cell_of t r.name).plain r s answer on_plain, fresh_covers (cell_of t r.name).plain r s answer on_plain, none_above))
