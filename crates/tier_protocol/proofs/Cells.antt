@@ -12,7 +12,7 @@ use Rattle.obj_model.specs.declared.state.NameState.{NameState}
 use Rattle.obj_ops.specs.declared.request.Acted.TheVariants.{Fresh}
 use Rattle.obj_ops.specs.Acts.{act}
 use Rattle.obj_ops.specs.Stores.{state_of, store_after}
-use Rattle.tier_protocol.specs.Tiers.{Name, TierRec, Flight, Tier, Cell, cell_of, plain_of}
+use Rattle.tier_protocol.specs.Tiers.{Name, TierRec, Flight, Tier, cell_of, plain_of}
 use Rattle.tier_protocol.specs.Moves.{set_at, with_rec, with_flight, with_base, with_act}
 use Rattle.tier_protocol.proofs.Requests.{replay_more}
 

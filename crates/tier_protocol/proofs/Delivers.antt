@@ -1,5 +1,5 @@
 -- Messages that reach the base.
-use Rattle.std.proofs.Common.{◌≡◌, ◌≢◌, ◌<◌, ◌≤◌, ◌⊎◌, ℕ, Bool, true, false, ltb, List, [], ◌∷◌, Option, Some, None, refl, sym, ap, subst, ◌∙◌, arith, inl, inr}
+use Rattle.std.proofs.Common.{◌≡◌, ◌≢◌, ◌<◌, ◌≤◌, ◌⊎◌, ℕ, Bool, true, false, List, ◌∷◌, Option, Some, None, refl, sym, ap, subst, ◌∙◌, arith, inl, inr}
 use Rattle.std.specs.Prelude.{if◌then◌else◌, nat_lt}
 use Rattle.std.proofs.lemmas.Bool.{ltb-true, ltb-false}
 use Rattle.copy_chunk.specs.Chunks.{chunk_at, chunks_of}
@@ -15,10 +15,10 @@ use Rattle.obj_ops.specs.Acts.{act, look}
 use Rattle.obj_ops.specs.Stores.{state_of}
 use Rattle.tier_types.specs.Flights.{HasOpid, is_bare}
 use Rattle.tier_types.specs.Serving.{Served, epoch_in, in_epoch, opid_in, put_by, replies, told_of}
-use Rattle.tier_protocol.specs.Tiers.{Name, Ask, Flight, ReadFlight, BaseMsg, BaseReply, BaseActed, Phase, Net, Tier, Cell, IsIn, cell_of}
+use Rattle.tier_protocol.specs.Tiers.{Name, Flight, ReadFlight, BaseMsg, BaseReply, BaseActed, Net, Tier, Cell, IsIn, cell_of}
 use Rattle.tier_protocol.specs.Memory.{IsFor, IsReplied}
 use Rattle.tier_protocol.specs.Sound.{IsHarmless, IsSound, IsTold, IsTrueOf, IsWriting, SoundAt, is_dirty, is_fresh}
-use Rattle.tier_protocol.specs.Moves.{with_act, with_base, with_net, with_reply, with_served, MayFill}
+use Rattle.tier_protocol.specs.Moves.{with_act, with_base, with_reply, with_served}
 use Rattle.tier_protocol.specs.Laws.{DeliveringKeeps, FillingKeeps}
 use Rattle.tier_protocol.proofs.Requests.{covered_not_fresh, fresh_again, fresh_more, fresh_room}
 use Rattle.tier_protocol.proofs.Cells.{act_here, act_there, base_here, base_there, names_by}

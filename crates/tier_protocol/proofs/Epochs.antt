@@ -1,6 +1,6 @@
 -- The epochs of the two pools: each part of a move keeps them sound.
-use Rattle.std.proofs.Common.{◌≡◌, ◌≢◌, ◌<◌, ◌≤◌, ℕ, ◌+◌, List, ◌∷◌, refl, sym, subst, arith, inl, inr}
-use Rattle.tier_protocol.specs.Tiers.{BaseMsg, BaseReply, Phase, Net, IsIn, AreIn}
+use Rattle.std.proofs.Common.{◌≡◌, ◌<◌, ◌≤◌, ℕ, ◌∷◌, sym, subst, arith, inl, inr}
+use Rattle.tier_protocol.specs.Tiers.{BaseMsg, BaseReply, Phase, Net, AreIn}
 use Rattle.tier_protocol.specs.Sound.{IsKnown, IsTold, SoundEpochs}
 
 known_as : (base new : ℕ) → base ≤ new → (m : BaseMsg) → IsKnown base m → IsKnown new m

@@ -1,24 +1,19 @@
 -- The moves fit one another.
-use Rattle.std.proofs.Common.{◌≡◌, ◌≢◌, ◌<◌, ◌≤◌, ℕ, ◌+◌, max, Bool, true, false, List, [], ◌∷◌, ◌++◌, Option, Some, None, refl, sym, ap, subst, ◌∙◌, arith, inl, inr}
+use Rattle.std.proofs.Common.{◌≡◌, ◌<◌, ℕ, ◌+◌, max, false, [], ◌∷◌, ◌++◌, Option, Some, None, refl, sym, ap, subst, ◌∙◌, arith, inl}
 use Rattle.std.specs.Prelude.{if◌then◌else◌, nat_lt}
 use Rattle.std.proofs.lemmas.Bool.{le-ltb}
 use Rattle.copy_chunk.specs.Chunks.{chunk_at, chunks_of}
-use Rattle.copy_chunk.specs.Gathers.{wanted}
 use Rattle.copy_chunk.specs.declared.chunk.Chunk.{Chunk}
-use Rattle.copy_chunk.specs.declared.chunk.Cursor.{Cursor}
 use Rattle.copy_chunk.proofs.Fronts.{front_goes_on}
-use Rattle.obj_model.specs.declared.reply.Reply.{Reply}
-use Rattle.obj_model.specs.declared.req.Req.{Req}
-use Rattle.obj_model.specs.declared.state.NameState.{NameState}
 use Rattle.obj_ops.specs.declared.request.Acted.{Acted}
 use Rattle.obj_ops.specs.declared.request.Acted.TheVariants.{Fresh}
 use Rattle.obj_ops.specs.Acts.{act}
 use Rattle.obj_ops.specs.Stores.{state_of}
 use Rattle.tier_types.specs.Serving.{Served, in_epoch, put_by, replies, told_of}
-use Rattle.tier_protocol.specs.Tiers.{Name, Ask, Flight, TierRec, BaseMsg, BaseReply, BaseActed, Phase, Net, Tier, Cell, IsIn, cell_of}
+use Rattle.tier_protocol.specs.Tiers.{Flight, BaseMsg, BaseReply, BaseActed, Net, Tier, cell_of}
 use Rattle.tier_protocol.specs.Sound.{IsSound, is_dirty}
-use Rattle.tier_protocol.specs.Moves.{begun, cleaned, delivered, raised, sent, went_up, with_flight, with_net, with_rec, with_served, MayClean, MayEvict, MayGather, MayLand}
-use Rattle.tier_protocol.specs.Fitting.{FlushesClean, PromotionsGoOn, StartsAreUp, WritesLand, fenced, flush_asked, write_asked}
+use Rattle.tier_protocol.specs.Moves.{begun, delivered, raised, sent, went_up, with_flight, with_net, with_served, MayClean, MayGather, MayLand}
+use Rattle.tier_protocol.specs.Fitting.{FlushesClean, PromotionsGoOn, StartsAreUp, WritesLand, flush_asked, write_asked}
 use Rattle.tier_protocol.proofs.Cells.{flight_here, rec_here}
 use Rattle.tier_protocol.proofs.Delivers.{delivering}
 use Rattle.tier_protocol.proofs.Steps.{beginning, going_up, raising, sending}

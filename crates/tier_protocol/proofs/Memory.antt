@@ -1,10 +1,10 @@
 -- The memory and the wire: each part of a move keeps them sound.
-use Rattle.std.proofs.Common.{◌≡◌, ◌≢◌, ◌<◌, ◌≤◌, ◌⊎◌, ℕ, ◌+◌, Bool, true, false, List, [], ◌∷◌, ◌++◌, Option, Some, None, refl, sym, ap, subst, ◌∙◌, arith, inl, inr}
+use Rattle.std.proofs.Common.{◌≡◌, ◌≢◌, ◌<◌, ◌≤◌, ◌⊎◌, ℕ, ◌+◌, true, false, List, [], ◌∷◌, ◌++◌, Option, Some, None, refl, sym, ap, subst, ◌∙◌, arith, inl, inr}
 use Rattle.std.specs.FinMap as fin
 use Rattle.copy_chunk.specs.declared.chunk.Chunk.{Chunk}
 use Rattle.obj_model.specs.Names.{name_cmp}
 use Rattle.obj_model.specs.declared.req.Req.{Req}
-use Rattle.tier_types.specs.Flights.{HasOpid, IsLeftOf, is_write, lets_read, name_asked, reads_of}
+use Rattle.tier_types.specs.Flights.{HasOpid, IsLeftOf, lets_read, name_asked, reads_of}
 use Rattle.tier_protocol.specs.Tiers.{Name, Ask, Flight, ReadFlight, BaseMsg, BaseReply, Phase, Flights, Net, IsIn, AreIn}
 use Rattle.tier_protocol.specs.Memory.{AreApart, IsFor, IsGiven, IsOwn, IsReplied, IsSent, SoundFlight, SoundMemory, SoundWire}
 use Rattle.tier_protocol.specs.Moves.{reads_with, set_at}

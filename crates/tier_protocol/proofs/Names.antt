@@ -7,7 +7,6 @@ use Rattle.copy_chunk.proofs.Fronts.{front_more, front_nothing}
 use Rattle.obj_model.specs.declared.reply.Reply.{Reply}
 use Rattle.obj_model.specs.declared.req.Req.{Req}
 use Rattle.obj_model.specs.declared.state.NameState.{NameState}
-use Rattle.obj_ops.specs.declared.request.Acted.{Acted}
 use Rattle.obj_ops.specs.declared.request.Acted.TheVariants.{Fresh, Again, Stale, Worn}
 use Rattle.obj_ops.specs.declared.reading.Looked.{Looked}
 use Rattle.obj_ops.specs.Acts.{act, look}
@@ -15,10 +14,10 @@ use Rattle.tier_types.specs.Flights.{HasOpid, IsLeftOf, is_bare, is_write, lets_
 use Rattle.tier_types.specs.Serving.{lasting}
 use Rattle.tier_protocol.specs.Tiers.{Name, Ask, Flight, ReadFlight, TierRec, BaseMsg, BaseReply, BaseActed, Phase, Net, Cell, IsIn, AreIn}
 use Rattle.tier_protocol.specs.Memory.{IsReplied, SoundWire}
-use Rattle.tier_protocol.specs.Sound.{Covers, IsBehind, IsHarmless, IsSpent, IsTrueOf, IsWriting, Shows, SoundAt, is_dirty, is_fresh}
+use Rattle.tier_protocol.specs.Sound.{Covers, IsBehind, IsHarmless, IsSpent, IsTrueOf, IsWriting, Shows, SoundAt, is_dirty}
 use Rattle.tier_protocol.specs.Moves.{reads_with}
 use Rattle.tier_protocol.proofs.Requests.{covers_stays, fresh_room, fresh_seq}
-use Rattle.tier_protocol.proofs.Memory.{has_old, in_more, in_same, old_reads}
+use Rattle.tier_protocol.proofs.Memory.{in_more, in_same, old_reads}
 
 -- ---- the wire
 

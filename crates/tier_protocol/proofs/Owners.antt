@@ -1,5 +1,5 @@
 -- Whose act it is.
-use Rattle.std.proofs.Common.{◌≡◌, ◌≢◌, ◌<◌, ◌≤◌, ◌⊎◌, ℕ, ◌+◌, ◌^◌, suc, Bool, true, false, eqb, List, [], ◌∷◌, ◌++◌, map, Option, Some, None, refl, sym, ap, subst, ◌∙◌, arith, inl, inr}
+use Rattle.std.proofs.Common.{◌≡◌, ◌≢◌, ◌<◌, ◌≤◌, ◌⊎◌, ℕ, suc, Bool, true, false, eqb, List, [], ◌∷◌, ◌++◌, map, Option, Some, None, refl, sym, ap, subst, ◌∙◌, arith, inl, inr}
 use Rattle.std.proofs.lemmas.Bool.{eqb-true, eqb-false}
 use Rattle.std.specs.Option.{option_map}
 use Rattle.std.specs.Prelude.{if◌then◌else◌, ◌==◌}
@@ -15,12 +15,12 @@ use Rattle.obj_model.specs.Names.{name_cmp}
 use Rattle.tier_types.specs.Flights.{IsLeftOf}
 use Rattle.tier_types.specs.Serving.{Served, lasting, put_by, told_of}
 use Rattle.tier_protocol.specs.Tiers.{Name, Flight, BaseMsg, BaseReply, BaseActed, Net, Tier, Cell, IsIn, cell_of}
-use Rattle.tier_protocol.specs.Sound.{Covers, IsSound, IsSpent, IsWriting, is_dirty}
+use Rattle.tier_protocol.specs.Sound.{Covers, IsSpent, IsWriting, is_dirty}
 use Rattle.tier_protocol.specs.Moves.{delivered, stopped_cache, with_act, with_base, with_left, with_net, with_served, Loses}
 use Rattle.tier_protocol.specs.Owners.{ActsAreOwned, AreOnce, Asking, CallAct, HasNoAct, IsOpen, LandingFits, Ledger, LossesAreQuiet, NumbersStay, Owned, Quiet, QuietKeeps, SoundOwners, SoundWriting, number_of, with_call_act}
 use Rattle.tier_protocol.proofs.Requests.{covered_not_fresh, covers_stays, fresh_again, fresh_covers, fresh_room, fresh_seq}
 use Rattle.tier_protocol.proofs.Cells.{act_here, act_there, base_here, base_there, same_or_not}
-use Rattle.tier_protocol.proofs.Delivers.{acts_on_plain, flies, in_epoch_by, own_req}
+use Rattle.tier_protocol.proofs.Delivers.{acts_on_plain, flies, in_epoch_by}
 
 -- ---- lists of acts
 

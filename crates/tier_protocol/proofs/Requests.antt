@@ -1,5 +1,5 @@
 -- What requests meet and leave.
-use Rattle.std.proofs.Common.{◌≡◌, ◌≢◌, ◌<◌, ◌⊎◌, ℕ, ◌+◌, ◌^◌, Bool, true, false, eqb, List, [], ◌∷◌, ◌++◌, Option, Some, None, Result, Ok, Err, refl, sym, subst, arith, inl, inr}
+use Rattle.std.proofs.Common.{◌≡◌, ◌≢◌, ◌<◌, ◌≤◌, ◌⊎◌, ℕ, ◌+◌, ◌^◌, Bool, true, false, eqb, List, [], ◌∷◌, ◌++◌, Option, Some, None, Result, Ok, Err, refl, sym, ap, subst, arith, inl, inr}
 use Rattle.std.proofs.lemmas.Bool.{eqb-true, eqb-false}
 use Rattle.obj_model.specs.declared.reply.Kept.{Kept}
 use Rattle.obj_model.specs.declared.reply.Reply.{Reply}
@@ -14,7 +14,7 @@ use Rattle.obj_ops.specs.Stores.{Store, state_of, store_after, replay}
 use Rattle.obj_ops.proofs.Keeping.{kept_of-keep_same, kept_of-keep_other}
 use Rattle.obj_ops.proofs.Cases.{act_cases, IsNewer}
 use Rattle.obj_ops.proofs.Replays.{acted_kept}
-use Rattle.tier_protocol.specs.Sound.{AreFresh, Covers, Keeps, is_fresh}
+use Rattle.tier_protocol.specs.Sound.{AreFresh, Covers, is_fresh, is_past}
 
 -- the request with its reply, as a state keeps it
 abbrev kept_with : Req → Reply → Kept
@@ -47,14 +47,33 @@ fresh_seq s r = fresh_cases (λ t reply. t.seq ≡ s.seq + 1) s r (λ room newer
 pub fresh_room : (s : NameState) (r : Req) (t : NameState) (reply : Reply) → act s r ≡ Fresh t reply → s.seq ≢ 2 ^ 62
 fresh_room s r = fresh_cases (λ t reply. s.seq ≢ 2 ^ 62) s r (λ room newer ver obj reply. room)
 
+-- this tid, or a later one, is kept
+abbrev Keeps : Option Kept → ℕ → Type 0
+Keeps None tid = ⊥
+Keeps (Some k) tid = tid ≤ k.tid
+
 not_newer : (r : Req) (kept : Option Kept) → Keeps kept r.tid → IsNewer r kept → ⊥
 not_newer r None keeps newer = keeps
 not_newer r (Some k) keeps newer = omega (arith, keeps, newer)
 
--- a request that is kept, or behind a later one of its client, does not act
+-- a covered request is kept, or a later one of its client is
+past_keeps : (s : NameState) (r : Req) → Covers s r → Keeps (kept_of r.client s.seen) r.tid
+past_keeps s r =
+    act_cases (λ a. is_past a ≡ true → Keeps (kept_of r.client s.seen) r.tid) s r
+    (λ k e lt g. subst (λ kept. Keeps kept r.tid) (sym e) (omega (arith, lt)))
+    (λ k e same g. subst (λ kept. Keeps kept r.tid) (sym e) (omega (arith, same)))
+    (λ e newer g. absurd (cc))
+    (λ room newer. by_run (λ a. is_past a ≡ true → Keeps (kept_of r.client s.seen) r.tid) s r (λ ver obj reply g. absurd (cc)) (run s.ver r.vector s.obj))
+
+keeps_past : (s : NameState) (r : Req) → Keeps (kept_of r.client s.seen) r.tid → Covers s r
+keeps_past s r keeps =
+    act_cases (λ a. is_past a ≡ true) s r (λ k e lt. refl) (λ k e same. refl)
+    (λ e newer. absurd (not_newer r (kept_of r.client s.seen) keeps newer))
+    (λ room newer. absurd (not_newer r (kept_of r.client s.seen) keeps newer))
+
+-- a covered request does not act
 pub covered_not_fresh : (s : NameState) (r : Req) (t : NameState) (reply : Reply) → Covers s r → act s r ≡ Fresh t reply → ⊥
-covered_not_fresh s r t reply covers e =
-    fresh_cases (λ t reply. ⊥) s r (λ room newer ver obj given. not_newer r (kept_of r.client s.seen) covers newer) t reply e
+covered_not_fresh s r t reply covers e = let h : is_past (Fresh t reply) ≡ true = subst (λ a. is_past a ≡ true) e covers in absurd (cc)
 
 lower_tid : (r q : Req) (kept : Option Kept) → Keeps kept r.tid → IsNewer q kept → r.tid < q.tid
 lower_tid r q None keeps newer = absurd keeps
@@ -73,15 +92,13 @@ keep_covers r q given seen false e keeps newer =
 
 -- what is kept stays kept, or something later of its client is
 pub covers_stays : (s : NameState) (r q : Req) (t : NameState) (reply : Reply) → Covers s r → act s q ≡ Fresh t reply → Covers t r
-covers_stays s r q t reply covers =
-    fresh_cases (λ t reply. Covers t r) s q
-    (λ room newer ver obj given. keep_covers r q given s.seen (eqb r.client q.client) refl covers newer) t reply
+covers_stays s r q t reply covers e =
+    keeps_past t r (fresh_cases (λ t reply. Keeps (kept_of r.client t.seen) r.tid) s q
+    (λ room newer ver obj given. keep_covers r q given s.seen (eqb r.client q.client) refl (past_keeps s r covers) newer) t reply e)
 
 -- a request that acted is covered
 pub fresh_covers : (s : NameState) (r : Req) (t : NameState) (reply : Reply) → act s r ≡ Fresh t reply → Covers t r
-fresh_covers s r =
-    fresh_cases (λ t reply. Covers t r) s r
-    (λ room newer ver obj given. subst (λ k. Keeps k r.tid) (sym (kept_of-keep_same (kept_with r given) s.seen)) (omega arith))
+fresh_covers s r t reply e = ap is_past (acted_kept s r t reply e)
 
 -- a request that acted is answered again
 pub fresh_again : (s : NameState) (r : Req) (t : NameState) (reply : Reply) → act s r ≡ Fresh t reply → act t r ≡ Again reply
@@ -91,8 +108,8 @@ fresh_again s r = acted_kept s r
 by_fresh : (P : Acted → Type 0) (s : NameState) (r : Req) → ((t : NameState) (reply : Reply) → P (Fresh t reply))
     → ((a : Acted) → (s.seq ≡ 2 ^ 62) ⊎ Covers s r → P a) → P (act s r)
 by_fresh P s r fresh other =
-    act_cases P s r (λ k e lt. other (Stale k.tid) (inr (subst (λ kept. Keeps kept r.tid) (sym e) (omega (arith, lt)))))
-    (λ k e same. other (Again k.reply) (inr (subst (λ kept. Keeps kept r.tid) (sym e) (omega (arith, same)))))
+    act_cases P s r (λ k e lt. other (Stale k.tid) (inr (keeps_past s r (subst (λ kept. Keeps kept r.tid) (sym e) (omega (arith, lt))))))
+    (λ k e same. other (Again k.reply) (inr (keeps_past s r (subst (λ kept. Keeps kept r.tid) (sym e) (omega (arith, same))))))
     (λ e newer. other (Worn (2 ^ 62)) (inl e))
     (λ room newer. by_run P s r (λ ver obj reply. fresh _ reply) (run s.ver r.vector s.obj))
 

@@ -1,26 +1,24 @@
 -- The moves of the cache, of work, and of stops and starts.
-use Rattle.std.proofs.Common.{◌≡◌, ◌≢◌, ◌<◌, ◌≤◌, ◌⊎◌, ℕ, ◌+◌, ◌^◌, Bool, true, false, List, [], ◌∷◌, ◌++◌, Option, Some, None, refl, sym, ap, subst, ◌∙◌, arith, inl, inr}
+use Rattle.std.proofs.Common.{◌≡◌, ◌≢◌, ◌≤◌, ◌⊎◌, ℕ, ◌+◌, ◌^◌, Bool, true, false, List, [], ◌∷◌, ◌++◌, Option, Some, None, refl, sym, ap, subst, ◌∙◌, arith, inl, inr}
 use Rattle.std.specs.FinMap as fin
 use Rattle.copy_chunk.specs.declared.chunk.Chunk.{Chunk}
 use Rattle.copy_chunk.proofs.Fronts.{joined_front}
 use Rattle.obj_model.specs.Names.{name_cmp}
-use Rattle.obj_model.specs.declared.reply.Reply.{Reply}
 use Rattle.obj_model.specs.declared.req.Req.{Req}
 use Rattle.obj_model.specs.declared.state.NameState.{NameState}
-use Rattle.obj_ops.specs.declared.request.Acted.{Acted}
-use Rattle.obj_ops.specs.declared.request.Acted.TheVariants.{Fresh, Again, Stale, Worn}
+use Rattle.obj_ops.specs.declared.request.Acted.TheVariants.{Fresh}
 use Rattle.obj_ops.specs.Acts.{act}
 use Rattle.obj_ops.specs.Stores.{Store, state_of}
-use Rattle.tier_types.specs.Flights.{HasOpid, IsLeftOf, is_bare, is_write, lets_read, name_asked, reads_of}
+use Rattle.tier_types.specs.Flights.{HasOpid, is_bare, is_write, name_asked}
 use Rattle.tier_types.specs.Serving.{lasting}
-use Rattle.tier_protocol.specs.Tiers.{Name, Ask, Flight, ReadFlight, TierRec, BaseMsg, BaseReply, BaseActed, Phase, Recs, Net, Tier, Cell, IsIn, AreIn, cell_of, plain_of}
+use Rattle.tier_protocol.specs.Tiers.{Name, Flight, TierRec, BaseMsg, BaseReply, BaseActed, Phase, Recs, Net, Tier, Cell, IsIn, cell_of}
 use Rattle.tier_protocol.specs.Memory.{IsGiven, IsOwn, IsReplied, IsSent, SoundFlight}
-use Rattle.tier_protocol.specs.Sound.{Covers, IsBehind, IsHarmless, IsKnown, IsSound, IsSpent, IsTold, Shows, SoundAt, is_dirty, is_fresh}
-use Rattle.tier_protocol.specs.Moves.{acted_here, begun, counted_raised, epoch_found, gathered, held, reads_with, sent, stopped_cache, with_act, with_flight, with_left, with_net, with_rec, Loses, MayGoUp, MayPromote}
+use Rattle.tier_protocol.specs.Sound.{Covers, IsBehind, IsHarmless, IsKnown, IsSound, IsTold, Shows, SoundAt, is_dirty, is_fresh}
+use Rattle.tier_protocol.specs.Moves.{acted_here, begun, epoch_found, held, reads_with, sent, stopped_cache, with_act, with_flight, with_net, with_rec}
 use Rattle.tier_protocol.specs.Laws.{ActingKeeps, BaseAlone, BeginningKeeps, CleaningKeeps, CountingKeeps, EachStands, EvictingKeeps, FindingKeeps, FoundIsSound, GatheringKeeps, GoingUpKeeps, HistoryIsLegal, IsRecordOf, IsStanding, LandingKeeps, LeavingKeeps, LosingKeeps, PromotingKeeps, RaisingKeeps, SendingKeeps, SoundStands, StoppingKeeps, found}
 use Rattle.tier_protocol.proofs.Requests.{fresh_more, spent_of}
 use Rattle.tier_protocol.proofs.Cells.{act_here, act_there, flight_here, flight_there, names_by, rec_here, rec_there}
-use Rattle.tier_protocol.proofs.Memory.{all_in, flight_begun, flight_gathered, flight_left, flight_read, free_as, free_unless_up, left_opids, memory_at, memory_begun, memory_found, memory_free, memory_left, memory_raised, memory_sent, memory_stopped, memory_unfenced, memory_up, old_or_new, wire_as}
+use Rattle.tier_protocol.proofs.Memory.{all_in, flight_begun, flight_gathered, flight_left, flight_read, free_as, free_unless_up, left_opids, memory_at, memory_begun, memory_found, memory_left, memory_raised, memory_sent, memory_stopped, memory_unfenced, memory_up, old_or_new}
 use Rattle.tier_protocol.proofs.Epochs.{epochs_as, epochs_sent}
 use Rattle.tier_protocol.proofs.Names.{at_acted_here, at_as, at_begun, at_free, at_gathered, at_left, at_read, at_rec, at_sent, at_up, spent_then}
 

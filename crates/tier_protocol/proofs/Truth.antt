@@ -1,5 +1,5 @@
 -- What the base's answers are worth, and what late messages can do.
-use Rattle.std.proofs.Common.{◌≡◌, ◌≢◌, ◌<◌, ◌≤◌, ◌⊎◌, ℕ, ◌+◌, Bool, true, false, List, [], ◌∷◌, ◌++◌, Option, Some, None, refl, sym, ap, subst, ◌∙◌, arith, inl, inr}
+use Rattle.std.proofs.Common.{◌≡◌, ◌<◌, ◌≤◌, ℕ, Bool, true, false, ◌∷◌, Some, None, refl, sym, ap, subst, ◌∙◌, arith, inl, inr}
 use Rattle.std.specs.Prelude.{if◌then◌else◌, nat_lt}
 use Rattle.std.proofs.lemmas.Bool.{lt-ltb, ltb-true}
 use Rattle.copy_chunk.specs.Chunks.{chunk_at, chunks_of}
@@ -11,9 +11,9 @@ use Rattle.obj_ops.specs.declared.request.Acted.TheVariants.{Fresh, Again, Stale
 use Rattle.obj_ops.specs.Acts.{act, look}
 use Rattle.obj_ops.specs.Stores.{state_of}
 use Rattle.tier_types.specs.Flights.{is_bare}
-use Rattle.tier_types.specs.Serving.{Served, lasting, name_in, put_by, told_of, epoch_in}
-use Rattle.tier_protocol.specs.Tiers.{Name, Flight, BaseMsg, BaseReply, BaseActed, Phase, Net, Tier, Cell, IsIn, cell_of}
-use Rattle.tier_protocol.specs.Sound.{Covers, IsHarmless, IsSound, IsSpent, IsWriting, is_dirty}
+use Rattle.tier_types.specs.Serving.{Served, put_by, told_of, epoch_in}
+use Rattle.tier_protocol.specs.Tiers.{Name, BaseMsg, BaseReply, BaseActed, Phase, Net, Tier, Cell, IsIn, cell_of}
+use Rattle.tier_protocol.specs.Sound.{Covers, IsHarmless, IsSpent, IsWriting, is_dirty}
 use Rattle.tier_protocol.specs.Moves.{acts_with, delivered, put_at, with_act, with_base, with_served}
 use Rattle.tier_protocol.specs.Answers.{is_fence, ActedIsSpent, ActsAreFresh, BaseNeverFalls, ChunksArePresent, EvictedStays, FlightsAreFenced, LateWritesChangeNothing, NoneIsAhead, OldAreRefused, ReadsAreTrue, WritesAreTrue}
 use Rattle.tier_protocol.proofs.Requests.{covered_not_fresh, fresh_covers, fresh_room, fresh_seq}

@@ -1,5 +1,5 @@
 -- The two worlds of a doubt.
-use Rattle.std.proofs.Common.{◌≡◌, ◌≢◌, ◌≤◌, ◌<◌, ◌⊎◌, ℕ, Bool, true, false, List, ◌∷◌, Option, Some, None, refl, sym, ap, subst, ◌∙◌, arith, inl, inr}
+use Rattle.std.proofs.Common.{◌≡◌, ◌⊎◌, ℕ, Bool, true, false, List, Option, Some, None, refl, sym, ap, subst, ◌∙◌, inl, inr}
 use Rattle.std.specs.FinMap as fin
 use Rattle.copy_chunk.specs.declared.chunk.Chunk.{Chunk}
 use Rattle.obj_model.specs.declared.reply.Reply.{Reply}
@@ -8,9 +8,9 @@ use Rattle.obj_model.specs.declared.state.NameState.{NameState}
 use Rattle.obj_ops.specs.declared.request.Acted.TheVariants.{Fresh}
 use Rattle.obj_ops.specs.Acts.{act}
 use Rattle.tier_types.specs.Flights.{IsLeftOf, is_write, lets_write}
-use Rattle.tier_protocol.specs.Tiers.{Name, Ask, Flight, TierRec, BaseMsg, BaseReply, Phase, Flights, Tier, IsIn, AreIn, cell_of}
+use Rattle.tier_protocol.specs.Tiers.{Name, Ask, Flight, TierRec, BaseReply, Phase, Tier, IsIn, AreIn, cell_of}
 use Rattle.tier_protocol.specs.Sound.{IsSound}
-use Rattle.tier_protocol.specs.Moves.{acted_here, cleaned, delivered, drained, epoch_found, evicted, promoted, taken, went_up, with_flight, with_left, MayActHere, MayGoUp, MayPromote}
+use Rattle.tier_protocol.specs.Moves.{acted_here, cleaned, delivered, drained, evicted, promoted, taken, went_up, with_flight, with_left, MayActHere, MayGoUp, MayPromote}
 use Rattle.tier_protocol.specs.Doubts.{AreWorlds, CacheDoubtKeeps, DoubtKeeps, EpochDoubtKeeps, HaveSameMemory, WorldsGoOn}
 use Rattle.tier_protocol.proofs.Cells.{flight_here, rec_here}
 use Rattle.tier_protocol.proofs.Delivers.{delivering}

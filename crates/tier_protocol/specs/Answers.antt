@@ -9,7 +9,7 @@ use Rattle.obj_ops.specs.declared.reading.Looked.{Looked}
 use Rattle.obj_ops.specs.declared.request.Acted.TheVariants.{Fresh}
 use Rattle.obj_ops.specs.Acts.{act, look}
 use Rattle.obj_ops.specs.Stores.{state_of}
-use Rattle.tier_types.specs.Serving.{epoch_in, lasting, name_in}
+use Rattle.tier_types.specs.Serving.{epoch_in, lasting}
 use Rattle.tier_protocol.specs.Tiers.{Name, Ask, Flight, ReadFlight, TierRec, BaseMsg, BaseReply, BaseActed, Phase, Tier, IsIn, cell_of}
 use Rattle.tier_protocol.specs.Sound.{IsSound, IsSpent, IsWriting}
 use Rattle.tier_protocol.specs.Moves.{delivered, evicted, with_reply, MayEvict, MayLand}

@@ -1,5 +1,5 @@
 -- A commit in doubt: two pairs over one memory, without it and with it.
-use Rattle.std.specs.Prelude.{◌≡◌, ◌≤◌, ◌<◌, ◌⊎◌, ℕ, Bool, List, Option, Some, None}
+use Rattle.std.specs.Prelude.{◌≡◌, ◌⊎◌, ℕ, Bool, List, Option, None}
 use Rattle.std.specs.FinMap as map
 use Rattle.copy_chunk.specs.declared.chunk.Chunk.{Chunk}
 use Rattle.obj_model.specs.declared.reply.Reply.{Reply}
@@ -8,7 +8,7 @@ use Rattle.obj_model.specs.declared.state.NameState.{NameState}
 use Rattle.obj_ops.specs.declared.request.Acted.TheVariants.{Fresh}
 use Rattle.obj_ops.specs.Acts.{act}
 use Rattle.tier_types.specs.Flights.{IsLeftOf}
-use Rattle.tier_protocol.specs.Tiers.{Name, Ask, Flight, TierRec, BaseMsg, BaseReply, Phase, Flights, Tier, IsIn, AreIn, cell_of}
+use Rattle.tier_protocol.specs.Tiers.{Name, Ask, TierRec, BaseMsg, BaseReply, Phase, Flights, Tier, IsIn, AreIn, cell_of}
 use Rattle.tier_protocol.specs.Sound.{IsSound}
 use Rattle.tier_protocol.specs.Moves.{acted_here, cleaned, drained, epoch_found, evicted, promoted, stopped_base, stopped_cache, taken, went_up, with_flight, with_left, MayActHere, MayClean, MayEvict, MayGoUp, MayPromote, MayRaise}
 

@@ -1,12 +1,10 @@
 -- What is proved of the moves: each keeps the pair sound.
-use Rattle.std.specs.Prelude.{◌≡◌, ◌≢◌, ◌≤◌, ◌<◌, ℕ, ◌+◌, ◌^◌, Bool, true, false, List, [], ◌∷◌, ◌++◌, Option, Some, None}
+use Rattle.std.specs.Prelude.{◌≡◌, ◌≤◌, ◌<◌, ℕ, ◌^◌, Bool, true, false, List, [], Option, Some, None}
 use Rattle.std.specs.FinMap as map
 use Rattle.copy_chunk.specs.declared.chunk.Chunk.{Chunk}
 use Rattle.obj_model.specs.declared.reply.Reply.{Reply}
 use Rattle.obj_model.specs.declared.req.Req.{Req}
 use Rattle.obj_model.specs.declared.state.NameState.{NameState}
-use Rattle.obj_ops.specs.declared.request.Acted.TheVariants.{Fresh}
-use Rattle.obj_ops.specs.Acts.{act}
 use Rattle.obj_ops.specs.Stores.{Store, state_of}
 use Rattle.tier_types.specs.Flights.{IsLeftOf}
 use Rattle.tier_protocol.specs.Tiers.{Name, Ask, Flight, TierRec, BaseMsg, BaseActed, Phase, Recs, Tier, IsIn, cell_of, plain_of}

@@ -1,6 +1,6 @@
 -- The moves of the pair, each with what it needs. A step of a tier is one of these, or some of them one
 -- after another.
-use Rattle.std.specs.Prelude.{◌≡◌, ◌≢◌, ◌≤◌, ◌<◌, ℕ, ◌+◌, max, Bool, true, false, List, [], ◌∷◌, ◌++◌, Option, Some, None}
+use Rattle.std.specs.Prelude.{◌≡◌, ◌≢◌, ◌<◌, ℕ, ◌+◌, max, Bool, true, false, List, [], ◌∷◌, ◌++◌, Option, Some, None}
 use Rattle.std.specs.FinMap as map
 use Rattle.copy_chunk.specs.Gathers.{joined, wanted}
 use Rattle.copy_chunk.specs.declared.chunk.Chunk.{Chunk}
@@ -9,13 +9,12 @@ use Rattle.obj_model.specs.States.{unknown}
 use Rattle.obj_model.specs.declared.reply.Reply.{Reply}
 use Rattle.obj_model.specs.declared.req.Req.{Req}
 use Rattle.obj_model.specs.declared.state.NameState.{NameState}
-use Rattle.obj_model.specs.declared.sub_op.SubOp.{SubOp}
 use Rattle.obj_ops.specs.declared.request.Acted.TheVariants.{Fresh}
 use Rattle.obj_ops.specs.Acts.{act}
 use Rattle.obj_ops.specs.Stores.{Store, state_of}
 use Rattle.tier_types.specs.Flights.{IsLeftOf, lets_read, lets_write, name_asked, reads_of}
 use Rattle.tier_types.specs.Serving.{Served, epoch_in, name_in, opid_in, served}
-use Rattle.tier_protocol.specs.Tiers.{Name, Ask, Flight, ReadFlight, TierRec, BaseMsg, BaseReply, BaseActed, Phase, Recs, Flights, Net, Tier, IsIn, AreIn, cell_of}
+use Rattle.tier_protocol.specs.Tiers.{Name, Ask, Flight, ReadFlight, TierRec, BaseMsg, BaseReply, BaseActed, Phase, Flights, Net, Tier, IsIn, AreIn, cell_of}
 use Rattle.tier_protocol.specs.Sound.{is_dirty}
 
 -- ---- parts of moves

@@ -3,12 +3,11 @@ use Rattle.std.specs.Prelude.{◌≡◌, ◌≢◌, ◌≤◌, ◌<◌, ◌⊎�
 use Rattle.copy_chunk.specs.Chunks.{chunk_at, chunks_of}
 use Rattle.copy_chunk.specs.Gathers.{IsFront}
 use Rattle.copy_chunk.specs.declared.chunk.Chunk.{Chunk}
-use Rattle.obj_model.specs.declared.reply.Kept.{Kept}
 use Rattle.obj_model.specs.declared.req.Req.{Req}
 use Rattle.obj_model.specs.declared.state.NameState.{NameState}
 use Rattle.obj_ops.specs.declared.request.Acted.{Acted}
 use Rattle.obj_ops.specs.declared.request.Acted.TheVariants.{Fresh, Again, Stale, Worn}
-use Rattle.obj_ops.specs.Acts.{act, look, kept_of}
+use Rattle.obj_ops.specs.Acts.{act, look}
 use Rattle.obj_ops.specs.Stores.{Store, state_of, store_after}
 use Rattle.tier_types.specs.Flights.{is_bare}
 use Rattle.tier_types.specs.Serving.{lasting}
@@ -85,14 +84,16 @@ IsTrueOf c epoch (BaseReply.NotFenced have got) = Unit {0}
 
 -- ---- what a Write that is on the wire can still do
 
--- this tid, or a later one, is kept
-abbrev pub Keeps : Option Kept → ℕ → Type 0
-Keeps None tid = ⊥
-Keeps (Some k) tid = tid ≤ k.tid
+-- the request is answered without acting: again, or as stale behind a later one of its client
+abbrev pub is_past : Acted → Bool
+is_past (Fresh s answer) = false
+is_past (Again answer) = true
+is_past (Stale kept) = true
+is_past (Worn limit) = false
 
--- the state keeps this request, or a later one of its client
+-- on this state the request acts no more
 abbrev pub Covers : NameState → Req → Type 0
-Covers s r = Keeps (kept_of r.client s.seen) r.tid
+Covers s r = is_past (act s r) ≡ true
 
 -- The request can act no more, whatever comes: the name is worn out in the base; or the request is
 -- covered in the base, in the plain store, and in each state that could still take the base's place.

@@ -1,5 +1,5 @@
 -- The two pools, the work under way between them, and the wire, as plain data.
-use Rattle.std.specs.Prelude.{ℕ, Bool, List, Option, unwrap_or}
+use Rattle.std.specs.Prelude.{ℕ, Bool, List, Option}
 use Rattle.std.specs.FinMap as map
 use Rattle.obj_model.specs.Names.{name_cmp}
 use Rattle.obj_model.specs.declared.req.Req.{Req}

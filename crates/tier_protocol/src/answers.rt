@@ -46,7 +46,6 @@ pub fn late_writes_change_nothing()
 {}
 
 /// A request that acted on the base can act no more.
-#[tactic(auto, using(crate::proofs::Truth::acted_spent))]
 pub fn acted_is_spent()
     ensures { ActedIsSpent }
 {}
