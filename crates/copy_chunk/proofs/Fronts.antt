@@ -9,7 +9,7 @@ use Rattle.copy_chunk.specs.declared.chunk.Chunk.{Chunk}
 use Rattle.copy_chunk.specs.declared.chunk.Cursor.{Cursor}
 use Rattle.copy_chunk.specs.declared.chunk.Cursor.TheVariants.{Head, Body, Attrs, Omap, Seen}
 use Rattle.copy_chunk.specs.Chunks.{Piece, pieces_of, first_place, linked, chunks_of, is_key, is_place, chunk_at}
-use Rattle.copy_chunk.specs.Gathers.{made, wanted_from, wanted, joined, IsFront, IsChainFrom, IsChain, GoesOn}
+use Rattle.copy_chunk.specs.Gathers.{made, wanted_from, wanted, joined, IsFront, IsChainFrom, IsChain, AreOf, GoesOn}
 use Rattle.copy_chunk.proofs.Places.{NoneAt, Apart, pieces_apart}
 use Rattle.copy_chunk.proofs.Joins.{chunks_make}
 
@@ -202,17 +202,14 @@ pub chain_more : (cs : List Chunk) (c : Chunk) → IsChain cs → wanted cs ≡ 
 unfolding IsChain wanted
 chain_more cs c h e = chain_push (Some Head) cs c h e
 
--- each is a chunk of the state
-abbrev pub AreOf : NameState → List Chunk → Type 0
-AreOf s cs = AllByRecursion (λ (c : Chunk). chunk_at (chunks_of s) c.at ≡ Some c) cs
-
 chain_goes_on : (s : NameState) (done cs : List Chunk) → IsFront done (chunks_of s) → IsChainFrom (wanted done) cs → AreOf s cs → IsFront (done ++ cs) (chunks_of s)
 chain_goes_on s done [] front chain all = subst (λ (l : List Chunk). IsFront l (chunks_of s)) (sym (append-nil done)) front
 chain_goes_on s done (c ∷ cs) front chain all =
     subst (λ (l : List Chunk). IsFront l (chunks_of s)) (append_assoc done (c ∷ []) cs)
     (chain_goes_on s (done ++ c ∷ []) cs (front_more done s c.at c front chain.0 all.0) (subst (λ (at : Option Cursor). IsChainFrom at cs) (sym (wanted_more done c)) chain.1) all.1)
 
-wanted_first : wanted [] ≡ Some Head
+-- the head is wanted first
+pub wanted_first : wanted [] ≡ Some Head
 unfolding wanted
 wanted_first = refl
 

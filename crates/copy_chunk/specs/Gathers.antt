@@ -1,5 +1,6 @@
 -- What gathered chunks make, which one is wanted behind them, and what a gather does with a chunk.
 use Rattle.std.specs.Prelude.{◌≡◌, ◌≢◌, ◌+◌, ◌^◌, ℕ, Bool, true, false, ◌&&◌, nat_lt, nat_le, List, [], ◌∷◌, ◌++◌, map, length, Option, Some, None, if◌then◌else◌}
+use Rattle.std.specs.List.{AllByRecursion}
 use Rattle.std.specs.Option.{option_map}
 use Rattle.std.specs.Ordering.{is_lt}
 use Rattle.std.specs.FinMap as fin
@@ -89,6 +90,10 @@ pub record GoesOn (s : NameState) (cs : List Chunk) (at : Cursor) : Type 0 where
   pub there : chunk_at (chunks_of s) at ≡ Some chunk
   pub place : chunk.at ≡ at
   pub front : IsFront (cs ++ chunk ∷ []) (chunks_of s)
+
+-- each is a chunk of the state
+abbrev pub AreOf : NameState → List Chunk → Type 0
+AreOf s cs = AllByRecursion (λ (c : Chunk). chunk_at (chunks_of s) c.at ≡ Some c) cs
 
 -- ---- which chunks a gather takes
 

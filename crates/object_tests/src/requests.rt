@@ -1,0 +1,164 @@
+//! Requests one after another on one name.
+use crate::tools::{name, show_out, show_why, vector};
+use obj_model::{Kept, KeptList, NameState, Reply, Req};
+use obj_ops::{Acted, Looked, act, look};
+use std::alloc::Global;
+use std::fmt::Write;
+use std::test::Fail;
+
+// The greatest number of requests that can act on a name.
+const MOST: u64 = 4_611_686_018_427_387_904;
+
+// A reply in the words of an answer.
+fn show_reply(text: &mut String, reply: Reply) -> Result<(), Fail> {
+    match reply {
+        Reply::Done { ver } => write!(text, "done v{ver}")?,
+        Reply::Refused { at, why, ver } => {
+            write!(text, "refused {at} ")?;
+            show_why(text, why)?;
+            write!(text, " v{ver}")?;
+        }
+    }
+    Ok(())
+}
+
+// What a read vector tells of a state.
+fn looked(alloc: Global, state: &NameState, text: &str) -> Result<String, Fail> {
+    let vector = vector(alloc, text)?;
+    if vector.writes() {
+        return Err("a read vector".into());
+    }
+    let mut shown = String::new(alloc);
+    match look(alloc, state, &vector).ok().ok_or("memory")? {
+        Looked::Refused { at, why, ver } => {
+            show_reply(&mut shown, Reply::Refused { at, why, ver })?;
+        }
+        Looked::Values { ver, outs } => {
+            write!(&mut shown, "values v{ver}")?;
+            for out in outs.as_slice() {
+                shown.push(' ')?;
+                show_out(&mut shown, out)?;
+            }
+        }
+    }
+    Ok(shown)
+}
+
+// What a request of client 7 is answered, and the state after it.
+fn acted(
+    alloc: Global,
+    state: NameState,
+    tid: u64,
+    text: &str,
+) -> Result<(NameState, String), Fail> {
+    let vector = vector(alloc, text)?;
+    if !vector.writes() || state.ver > state.seq || state.seq > MOST {
+        return Err("a request".into());
+    }
+    let name = name(alloc, "a")?;
+    let req = Req {
+        client: 7,
+        tid,
+        name,
+        vector,
+    };
+    let mut shown = String::new(alloc);
+    match act(alloc, &state, &req).ok().ok_or("memory")? {
+        Acted::Fresh { state, reply } => {
+            show_reply(&mut shown, reply)?;
+            return Ok((state, shown));
+        }
+        Acted::Again { reply } => {
+            show_reply(&mut shown, reply)?;
+            shown.push_str(" kept")?;
+        }
+        Acted::Stale { kept } => write!(&mut shown, "stale {kept}")?,
+        Acted::Worn { limit } => write!(&mut shown, "worn {limit}")?,
+    }
+    Ok((state, shown))
+}
+
+#[test]
+fn lines_on_one_name(rt: HostRuntime) -> Result<(), Fail> {
+    let alloc = rt.alloc();
+    // the line begins anew; its tid, or 0 for a reading; its vector; the answer
+    let table: [(bool, u64, &str, &str); 21] = [
+        // an append that is sent twice is done once
+        (true, 1, "append d", "done v1"),
+        (false, 1, "append d", "done v1 kept"),
+        (false, 0, "stat", "values v1 1"),
+        // a request behind a later one is stale
+        (true, 5, "create", "done v1"),
+        (false, 4, "remove", "stale 5"),
+        // a gap is filled with zeros, and zeros do not lengthen
+        (true, 1, "write 3 a", "done v1"),
+        (false, 0, "read 0 0", "values v1 ...a"),
+        (false, 2, "zero 2 9", "done v2"),
+        (false, 0, "read 0 0", "values v2 ...."),
+        // a refused vector leaves the object, acts, and is kept with its refusal
+        (true, 1, "create", "done v1"),
+        (false, 2, "setxattr k a ; assert_ver 9", "refused 1 overflow v1"),
+        (false, 0, "listxattrs", "values v1 "),
+        (false, 2, "setxattr k a ; assert_ver 9", "refused 1 overflow v1 kept"),
+        (false, 3, "assert_ver 0 ; remove", "refused 0 range v1"),
+        // a body above the limit is refused with the size that was asked
+        (true, 1, "writefull *1048576", "done v1"),
+        (false, 2, "append .", "refused 0 toobig 1048576 1048577 v1"),
+        (false, 0, "stat", "values v1 1048576"),
+        // what is kept outlives the object
+        (true, 1, "writefull a", "done v1"),
+        (false, 2, "remove", "done v2"),
+        (false, 2, "remove", "done v2 kept"),
+        (false, 0, "read 0 0", "refused 0 noent v2"),
+    ];
+    let mut state = NameState::unknown(alloc);
+    for (anew, tid, text, want) in &table {
+        if *anew {
+            state = NameState::unknown(alloc);
+        }
+        let shown = if *tid == 0 {
+            looked(alloc, &state, text)?
+        } else {
+            let (next, shown) = acted(alloc, state, *tid, text)?;
+            state = next;
+            shown
+        };
+        assert_eq!(rt; shown.as_str(), *want, "{text}");
+    }
+    Ok(())
+}
+
+// A name that has had so many requests, the last of them of client 7 with tid 9.
+fn state_of(alloc: Global, seq: u64) -> Result<NameState, Fail> {
+    let mut seen = KeptList::new(alloc);
+    let kept = Kept {
+        client: 7,
+        tid: 9,
+        reply: Reply::Done { ver: 3 },
+    };
+    seen.push(kept).ok().ok_or("memory")?;
+    Ok(NameState {
+        ver: 3,
+        seq,
+        obj: None,
+        seen,
+    })
+}
+
+#[test]
+fn worn_names(rt: HostRuntime) -> Result<(), Fail> {
+    let alloc = rt.alloc();
+    let table: [(u64, u64, &str, &str); 6] = [
+        (MOST, 8, "create", "stale 9"),
+        (MOST, 9, "create", "done v3 kept"),
+        (MOST, 10, "create", "worn 4611686018427387904"),
+        (MOST - 1, 10, "create", "done v4"),
+        (MOST - 1, 10, "remove", "refused 0 noent v3"),
+        (9, 10, "assert_ver 3 ; append x", "done v4"),
+    ];
+    for (seq, tid, text, want) in &table {
+        let (_, shown) = acted(alloc, state_of(alloc, *seq)?, *tid, text)?;
+        assert_eq!(rt; shown.as_str(), *want, "{tid} at {seq}");
+    }
+    Ok(())
+}
