@@ -30,7 +30,7 @@ pub struct ReadFlight {
 pub type ReadList = Items<ReadFlight>;
 
 /// Unfinished work on one name. Each has the number of its operation, counted from 1 in each epoch.
-#[derive(Debug, Drop)]
+#[derive(Drop)]
 pub enum Flight {
     /// The name's state is copied from the base in chunks, and then this call's request is served.
     Promote {

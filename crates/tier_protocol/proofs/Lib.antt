@@ -1,0 +1,12 @@
+pub mod Requests
+pub mod Cells
+pub mod Memory
+pub mod Epochs
+pub mod Names
+pub mod Places
+pub mod Delivers
+pub mod Steps
+pub mod Truth
+pub mod Worlds
+pub mod Fits
+pub mod Owners

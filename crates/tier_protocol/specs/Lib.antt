@@ -1,0 +1,9 @@
+pub mod Tiers
+pub mod Memory
+pub mod Sound
+pub mod Moves
+pub mod Laws
+pub mod Answers
+pub mod Doubts
+pub mod Fitting
+pub mod Owners
