@@ -4,7 +4,6 @@ use Rattle.std.specs.Prelude.{nat_le, is_some}
 use Rattle.std.specs.List.{flat_map}
 use Rattle.std.proofs.lemmas.List.{append-nil, take-append-drop, length-drop, nil_from_length}
 use Rattle.std.proofs.lemmas.List.Concat.{flat_map-cons}
-
 use Rattle.std.specs.FinMap as fin
 use Rattle.obj_model.specs.Names.{name_cmp}
 use Rattle.obj_model.specs.States.{unknown}
@@ -125,8 +124,8 @@ module _ (ver seq : ℕ) (seen : List Kept) where
       ∙ ap (λ (s : NameState). made_pieces s (attrs ++ omap)) (body_made fin.empty fin.empty (pieces_in (length o.body)) 0 [] o.body (pieces_cover (length o.body)))
       ∙ made_append (with_parts o.body fin.empty fin.empty) attrs omap
       ∙ ap (λ (s : NameState). made_pieces s omap)
-        (attrs_made o.body fin.empty None [] (table_groups (fin.entries o.attrs)) (subst Rising (sym all_attrs) (entries_rise o.attrs))
-        ∙ ap (λ (t : Table). with_parts o.body t fin.empty) (ap fin.from_entries all_attrs ∙ made_of_entries o.attrs))
+      (attrs_made o.body fin.empty None [] (table_groups (fin.entries o.attrs)) (subst Rising (sym all_attrs) (entries_rise o.attrs))
+      ∙ ap (λ (t : Table). with_parts o.body t fin.empty) (ap fin.from_entries all_attrs ∙ made_of_entries o.attrs))
       ∙ omap_made o.body o.attrs None [] (table_groups (fin.entries o.omap)) (subst Rising (sym all_omap) (entries_rise o.omap))
       ∙ ap (λ (t : Table). with_parts o.body o.attrs t) (ap fin.from_entries all_omap ∙ made_of_entries o.omap)
 

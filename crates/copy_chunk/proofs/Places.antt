@@ -157,7 +157,7 @@ module _ (place : Option (List ℕ) → Cursor) (same : (j k : Option (List ℕ)
       either_way (λ (gs : List (List Entry)). Spread k (later_pieces (Some k) gs)) (nat_le (weight e) room) (before_first e (groups (room - weight e) es)) ([] ∷ before_first e (groups (65536 - weight e) es))
       (subst (λ (ps : List Piece). Spread k ps) (sym (later_before (Some k) e (groups (room - weight e) es))) (higher k e.0 (later_pieces (Some e.0) (groups (room - weight e) es)) above.0 (spread_groups e.0 (room - weight e) es tail.0 tail.1)))
       (let p = placed_before (Some k) e (groups (65536 - weight e) es) in
-       subst (λ (ps : List Piece). Spread k ps) (sym p.1) (one_more k e p.0 (later_pieces (Some e.0) (groups (65536 - weight e) es)) above.0 (spread_groups e.0 (65536 - weight e) es tail.0 tail.1)))
+      subst (λ (ps : List Piece). Spread k ps) (sym p.1) (one_more k e p.0 (later_pieces (Some e.0) (groups (65536 - weight e) es)) above.0 (spread_groups e.0 (65536 - weight e) es tail.0 tail.1)))
     where
       either_way : {X : Type 0} (P : X → Type 0) (b : Bool) (x y : X) → P x → P y → P (cond b x y)
       either_way P true x y p q = p
@@ -197,10 +197,11 @@ object_apart (Some o) =
     let omap_three : Upto 3 omap = table_rank Omap same_omap 3 None (table_groups (fin.entries o.omap)) (λ k. refl) in
     let omap_behind : Behind 2 omap = table_behind Omap same_omap 2 None (table_groups (fin.entries o.omap)) (λ k. omega arith) in
     let one : Behind 1 (attrs ++ omap) = behind_append 1 attrs omap (table_behind Attrs same_attrs 1 None (table_groups (fin.entries o.attrs)) (λ k. omega arith)) (table_behind Omap same_omap 1 None (table_groups (fin.entries o.omap)) (λ k. omega arith)) in
-    let tables : Apart (attrs ++ omap) = apart_append 2 attrs omap attrs_two omap_behind (table_apart Attrs same_attrs (fin.entries o.attrs) (entries_rise o.attrs)) (table_apart Omap same_omap (fin.entries o.omap) (entries_rise o.omap)) in
-    (apart_append 1 body (attrs ++ omap) (body_upto 1 (pieces_in (length o.body)) 0 o.body (omega arith)) one (body_apart (pieces_in (length o.body)) 0 o.body) tables,
-     behind_append 0 body (attrs ++ omap) (body_behind (pieces_in (length o.body)) 0 o.body) (behind_append 0 attrs omap (table_behind Attrs same_attrs 0 None (table_groups (fin.entries o.attrs)) (λ k. omega arith)) (table_behind Omap same_omap 0 None (table_groups (fin.entries o.omap)) (λ k. omega arith))),
-     upto_append 3 body (attrs ++ omap) (body_upto 3 (pieces_in (length o.body)) 0 o.body (omega arith)) (upto_append 3 attrs omap (table_upto attrs attrs_two) omap_three))
+    let tables : Apart (attrs ++ omap) = apart_append 2 attrs omap attrs_two omap_behind (table_apart Attrs same_attrs (fin.entries o.attrs) (entries_rise o.attrs)) (table_apart Omap same_omap (fin.entries o.omap) (entries_rise o.omap)) in (
+      apart_append 1 body (attrs ++ omap) (body_upto 1 (pieces_in (length o.body)) 0 o.body (omega arith)) one (body_apart (pieces_in (length o.body)) 0 o.body) tables,
+      behind_append 0 body (attrs ++ omap) (body_behind (pieces_in (length o.body)) 0 o.body) (behind_append 0 attrs omap (table_behind Attrs same_attrs 0 None (table_groups (fin.entries o.attrs)) (λ k. omega arith)) (table_behind Omap same_omap 0 None (table_groups (fin.entries o.omap)) (λ k. omega arith))),
+      upto_append 3 body (attrs ++ omap) (body_upto 3 (pieces_in (length o.body)) 0 o.body (omega arith)) (upto_append 3 attrs omap (table_upto attrs attrs_two) omap_three),
+    )
   where
     table_upto : (ps : List Piece) → Upto 2 ps → Upto 3 ps
     table_upto [] h = tt
@@ -211,6 +212,7 @@ pub pieces_apart : (s : NameState) → Apart (pieces_of s)
 unfolding pieces_of
 pieces_apart s =
     let o = object_apart s.obj in
-    let last : List Piece = (Seen, part.Seen s.seen) ∷ [] in
-    (none_behind Head 0 (object_pieces s.obj ++ last) (omega arith) (behind_append 0 (object_pieces s.obj) last o.1 (omega arith, tt)),
-     apart_append 3 (object_pieces s.obj) last o.2 (omega arith, tt) o.0 (tt, tt))
+    let last : List Piece = (Seen, part.Seen s.seen) ∷ [] in (
+      none_behind Head 0 (object_pieces s.obj ++ last) (omega arith) (behind_append 0 (object_pieces s.obj) last o.1 (omega arith, tt)),
+      apart_append 3 (object_pieces s.obj) last o.2 (omega arith, tt) o.0 (tt, tt),
+    )

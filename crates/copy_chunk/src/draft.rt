@@ -12,8 +12,8 @@ ghost use Rattle.copy_chunk.specs.Steps.{IsRising, state_of, Puts, PutsTable, Pu
 
 use crate::{Cursor, Part};
 use obj_model::{
-    ATTRS_LIMIT, BODY_LIMIT, Bytes, Items, Kept, KeptList, NUMBER_LIMIT, Name, NameMap, NameState, NoMemory, OMAP_LIMIT, Obj,
-    Pair, PairList, Reply, VALUE_LIMIT,
+    ATTRS_LIMIT, BODY_LIMIT, Bytes, Items, Kept, KeptList, NUMBER_LIMIT, Name, NameMap, NameState,
+    NoMemory, OMAP_LIMIT, Obj, Pair, PairList, Reply, VALUE_LIMIT,
 };
 use std::alloc::Global;
 use std::collections::BTreeMap;

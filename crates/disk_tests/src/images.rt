@@ -90,6 +90,9 @@ fn a_bad_head_is_told_at_its_place(rt: HostRuntime) -> Result<(), Fail> {
         reads_as(&rt, &mut disk, bytes);
     }
     let mut base = memory(&rt, alloc, EMPTY, None, Pick::Old)?;
-    assert_eq!(rt; look_at_head(&mut base, Pool::Base), Ok(Front::Bad { at: 13 }));
+    assert_eq!(rt;
+        look_at_head(&mut base, Pool::Base),
+        Ok(Front::Bad { at: 13 })
+    );
     Ok(())
 }

@@ -223,17 +223,36 @@ fn wrong_texts(rt: HostRuntime) -> Result<(), Fail> {
         (b"get 1 a stat\npar\n#end\n end", 2, "par"),
         (b"par\nfly\nend", 2, "verb"),
         (b"par\n\nget 1 a stat\n#x\nop 2 1 a stat\nend", 5, "mixed 0"),
-        (b"par\nget 1 a stat\nget 2 a stat\nget 3 a stat\nget 4 a stat\nget 5 a stat\nget 6 a stat\nget 7 a stat\nget 8 a stat\nget 9 a stat\nget 10 a stat\nget 11 a stat\nget 12 a stat\nget 13 a stat\nget 14 a stat\nget 15 a stat\nget 16 a stat\nget 1 a stat\nop 17 1 a remove\nend", 19, "par"),
-        (b"get 1 a assert_exists ; assert_exists ; assert_exists ; assert_exists ; assert_exists ; assert_exists ; assert_exists ; assert_exists ; assert_exists ; assert_exists ; assert_exists ; assert_exists ; assert_exists ; assert_exists ; assert_exists ; assert_exists ; assert_exists", 1, "many"),
-        (b"get 1 a stat ; remove ; stat ; stat ; stat ; stat ; stat ; stat ; stat ; stat ; stat ; stat ; stat ; stat ; stat ; stat ; stat", 1, "many"),
-        (b"op 1 1 a stat ; stat ; stat ; stat ; stat ; stat ; stat ; stat ; stat ; stat ; stat ; stat ; stat ; stat ; stat ; stat ; fly", 1, "subop"),
+        (
+            b"par\nget 1 a stat\nget 2 a stat\nget 3 a stat\nget 4 a stat\nget 5 a stat\nget 6 a stat\nget 7 a stat\nget 8 a stat\nget 9 a stat\nget 10 a stat\nget 11 a stat\nget 12 a stat\nget 13 a stat\nget 14 a stat\nget 15 a stat\nget 16 a stat\nget 1 a stat\nop 17 1 a remove\nend",
+            19,
+            "par",
+        ),
+        (
+            b"get 1 a assert_exists ; assert_exists ; assert_exists ; assert_exists ; assert_exists ; assert_exists ; assert_exists ; assert_exists ; assert_exists ; assert_exists ; assert_exists ; assert_exists ; assert_exists ; assert_exists ; assert_exists ; assert_exists ; assert_exists",
+            1,
+            "many",
+        ),
+        (
+            b"get 1 a stat ; remove ; stat ; stat ; stat ; stat ; stat ; stat ; stat ; stat ; stat ; stat ; stat ; stat ; stat ; stat ; stat",
+            1,
+            "many",
+        ),
+        (
+            b"op 1 1 a stat ; stat ; stat ; stat ; stat ; stat ; stat ; stat ; stat ; stat ; stat ; stat ; stat ; stat ; stat ; stat ; fly",
+            1,
+            "subop",
+        ),
         (b"get 1 a\nfly", 1, "words"),
         (b"mode forward", 1, "left-out forward"),
         (b"end\npar", 1, "par"),
         (b"par\nend x\nend", 2, "words"),
     ];
     for (place, (text, line, words)) in cases.iter().enumerate() {
-        assert!(rt; is_wrong(rt.alloc(), text, *line, words), "case {place}: {words}");
+        assert!(rt;
+            is_wrong(rt.alloc(), text, *line, words),
+            "case {place}: {words}"
+        );
     }
     Ok(())
 }
@@ -265,7 +284,9 @@ get 9 b read 0 4611686018427387904";
                 let tid = 4_611_686_018_427_387_904;
                 assert!(rt; is_op(first, 3, 256, tid, b"a", &[0, 255]));
                 assert!(rt; is_op(second, 5, 10, 7, b"~!", &[]));
-                assert!(rt; third.number == 6 && matches!(&third.line, Line::Get { client: 9, .. }));
+                assert!(rt;
+                    third.number == 6 && matches!(&third.line, Line::Get { client: 9, .. })
+                );
             }
             _ => assert!(rt; false, "three commands"),
         },

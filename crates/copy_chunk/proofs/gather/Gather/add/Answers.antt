@@ -22,10 +22,11 @@ invariant_of-self-then-not-branch c =
     gathered_still (state_of c.self.inside.draft) (state_of c.put.new.self) c.self.inside.wanted (values c.self.inside.chunks.items) (values c.reserve.new.self.items) c.self.invariant (rw c.if-not-branch.true at c.in_ok-put.ensures.put).1 (values_same c.self.inside.chunks.items c.reserve.new.self.items c.reserve.ensures.items)
 
 pub returns-then-not-branch-clause-added : goal.returns-then-not-branch-clause-added
-returns-then-not-branch-clause-added c =
-    (ap wanted (sym c.self.view_is) ∙ sym c.self.invariant.place ∙ c.is_at.ensures.yes c.if-not-is_at.false,
-     ap (λ (l : List Chunk). fits l c.args.chunk) (sym c.self.view_is) ∙ unfit_part (state_of c.self.inside.draft) (state_of c.put.new.self) c.self.inside.wanted (values c.self.inside.chunks.items) c.args.chunk c.self.invariant (rw c.if-not-branch.true at c.in_ok-put.ensures.put),
-     values_same c.self.inside.chunks.items c.reserve.new.self.items c.reserve.ensures.items ∙ c.self.view_is)
+returns-then-not-branch-clause-added c = (
+  ap wanted (sym c.self.view_is) ∙ sym c.self.invariant.place ∙ c.is_at.ensures.yes c.if-not-is_at.false,
+  ap (λ (l : List Chunk). fits l c.args.chunk) (sym c.self.view_is) ∙ unfit_part (state_of c.self.inside.draft) (state_of c.put.new.self) c.self.inside.wanted (values c.self.inside.chunks.items) c.args.chunk c.self.invariant (rw c.if-not-branch.true at c.in_ok-put.ensures.put),
+  values_same c.self.inside.chunks.items c.reserve.new.self.items c.reserve.ensures.items ∙ c.self.view_is,
+)
 
 pub invariant_of-self-2 : goal.invariant_of-self-2
 invariant_of-self-2 c =
@@ -33,7 +34,8 @@ invariant_of-self-2 c =
     (values_more c.self.inside.chunks.items c.reserve.new.self.items c.push_reserved.new.self.items c.of-taken.result c.args.chunk c.reserve.ensures.items c.push_reserved.ensures.items c.of-taken.ensures)
 
 pub returns-clause-added : goal.returns-clause-added
-returns-clause-added c =
-    (ap wanted (sym c.self.view_is) ∙ sym c.self.invariant.place ∙ c.is_at.ensures.yes c.if-not-is_at.false,
-     ap (λ (l : List Chunk). fits l c.args.chunk) (sym c.self.view_is) ∙ fit_part (state_of c.self.inside.draft) (state_of c.put.new.self) c.self.inside.wanted (values c.self.inside.chunks.items) c.args.chunk c.self.invariant (sym c.leads.ensures ∙ c.if-not-leads.false) (rw c.if-not-branch.false at c.in_ok-put.ensures.put),
-     values_more c.self.inside.chunks.items c.reserve.new.self.items c.push_reserved.new.self.items c.of-taken.result c.args.chunk c.reserve.ensures.items c.push_reserved.ensures.items c.of-taken.ensures ∙ ap (λ (l : List Chunk). l ++ c.args.chunk ∷ []) c.self.view_is)
+returns-clause-added c = (
+  ap wanted (sym c.self.view_is) ∙ sym c.self.invariant.place ∙ c.is_at.ensures.yes c.if-not-is_at.false,
+  ap (λ (l : List Chunk). fits l c.args.chunk) (sym c.self.view_is) ∙ fit_part (state_of c.self.inside.draft) (state_of c.put.new.self) c.self.inside.wanted (values c.self.inside.chunks.items) c.args.chunk c.self.invariant (sym c.leads.ensures ∙ c.if-not-leads.false) (rw c.if-not-branch.false at c.in_ok-put.ensures.put),
+  values_more c.self.inside.chunks.items c.reserve.new.self.items c.push_reserved.new.self.items c.of-taken.result c.args.chunk c.reserve.ensures.items c.push_reserved.ensures.items c.of-taken.ensures ∙ ap (λ (l : List Chunk). l ++ c.args.chunk ∷ []) c.self.view_is,
+)
