@@ -2,7 +2,7 @@
 //!
 //! Promises that `pick` is the first row that qualifies in the cyclic order of names behind the
 //! cursor, over any rows, modes and pool values, and that it answers nothing exactly where none
-//! qualifies. The laws say it in plain words.
+//! qualifies.
 #![tactic(auto)]
 
 mod picking;
