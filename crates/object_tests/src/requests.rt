@@ -1,5 +1,5 @@
 //! Requests one after another on one name.
-use crate::tools::{name, show_out, show_why, vector};
+use crate::tools::{name, number, row, show_out, show_why, vector};
 use obj_model::{Kept, KeptList, NameState, Reply, Req};
 use obj_ops::{Acted, Looked, act, look};
 use std::alloc::Global;
@@ -78,63 +78,63 @@ fn acted(
     Ok((state, shown))
 }
 
+// A tid, or 0 for a reading; the vector; the answer. A blank line begins anew.
+const LINES: &str = r#"# an append that is sent twice is done once
+
+1 => append d => done v1
+1 => append d => done v1 kept
+0 => stat => values v1 1
+# a request behind a later one is stale
+
+5 => create => done v1
+4 => remove => stale 5
+# a gap is filled with zeros, and zeros do not lengthen
+
+1 => write 3 a => done v1
+0 => read 0 0 => values v1 ...a
+2 => zero 2 9 => done v2
+0 => read 0 0 => values v2 ....
+# a refused vector leaves the object, acts, and is kept with its refusal
+
+1 => create => done v1
+2 => setxattr k a ; assert_ver 9 => refused 1 overflow v1
+0 => listxattrs => values v1 
+2 => setxattr k a ; assert_ver 9 => refused 1 overflow v1 kept
+3 => assert_ver 0 ; remove => refused 0 range v1
+# a body above the limit is refused with the size that was asked
+
+1 => writefull *1048576 => done v1
+2 => append . => refused 0 toobig 1048576 1048577 v1
+0 => stat => values v1 1048576
+# what is kept outlives the object
+
+1 => writefull a => done v1
+2 => remove => done v2
+2 => remove => done v2 kept
+0 => read 0 0 => refused 0 noent v2"#;
+
 #[test]
 fn lines_on_one_name(rt: HostRuntime) -> Result<(), Fail> {
     let alloc = rt.alloc();
-    // the line begins anew; its tid, or 0 for a reading; its vector; the answer
-    let table: [(bool, u64, &str, &str); 21] = [
-        // an append that is sent twice is done once
-        (true, 1, "append d", "done v1"),
-        (false, 1, "append d", "done v1 kept"),
-        (false, 0, "stat", "values v1 1"),
-        // a request behind a later one is stale
-        (true, 5, "create", "done v1"),
-        (false, 4, "remove", "stale 5"),
-        // a gap is filled with zeros, and zeros do not lengthen
-        (true, 1, "write 3 a", "done v1"),
-        (false, 0, "read 0 0", "values v1 ...a"),
-        (false, 2, "zero 2 9", "done v2"),
-        (false, 0, "read 0 0", "values v2 ...."),
-        // a refused vector leaves the object, acts, and is kept with its refusal
-        (true, 1, "create", "done v1"),
-        (
-            false,
-            2,
-            "setxattr k a ; assert_ver 9",
-            "refused 1 overflow v1",
-        ),
-        (false, 0, "listxattrs", "values v1 "),
-        (
-            false,
-            2,
-            "setxattr k a ; assert_ver 9",
-            "refused 1 overflow v1 kept",
-        ),
-        (false, 3, "assert_ver 0 ; remove", "refused 0 range v1"),
-        // a body above the limit is refused with the size that was asked
-        (true, 1, "writefull *1048576", "done v1"),
-        (false, 2, "append .", "refused 0 toobig 1048576 1048577 v1"),
-        (false, 0, "stat", "values v1 1048576"),
-        // what is kept outlives the object
-        (true, 1, "writefull a", "done v1"),
-        (false, 2, "remove", "done v2"),
-        (false, 2, "remove", "done v2 kept"),
-        (false, 0, "read 0 0", "refused 0 noent v2"),
-    ];
     let mut state = NameState::unknown(alloc);
-    for (anew, tid, text, want) in &table {
-        if *anew {
+    let mut rows = 0u32;
+    for line in LINES.lines() {
+        if line.is_empty() {
             state = NameState::unknown(alloc);
+        } else if let Some((tid, text, want)) = row(line)? {
+            let tid = number(tid)?;
+            let shown = if tid == 0 {
+                looked(alloc, &state, text)?
+            } else {
+                let (next, shown) = acted(alloc, state, tid, text)?;
+                state = next;
+                shown
+            };
+            assert_eq!(rt; shown.as_str(), want, "{text}");
+            rows = rows.saturating_add(1);
         }
-        let shown = if *tid == 0 {
-            looked(alloc, &state, text)?
-        } else {
-            let (next, shown) = acted(alloc, state, *tid, text)?;
-            state = next;
-            shown
-        };
-        assert_eq!(rt; shown.as_str(), *want, "{text}");
     }
+    assert_eq!(rt; rows, 21);
     Ok(())
 }
 

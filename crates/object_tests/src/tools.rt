@@ -9,8 +9,18 @@ fn word<'a>(words: &'a [&'a str], at: usize) -> &'a str {
     words.get(at).copied().unwrap_or("")
 }
 
+// The three parts of a row, with arrows between; none of a comment.
+pub fn row(line: &str) -> Result<Option<(&str, &str, &str)>, Fail> {
+    if line.starts_with('#') {
+        return Ok(None);
+    }
+    let (first, rest) = line.split_once(" => ").ok_or("a row")?;
+    let (second, third) = rest.split_once(" => ").ok_or("a row")?;
+    Ok(Some((first, second, third)))
+}
+
 // A number in decimal digits.
-fn number(word: &str) -> Result<u64, Fail> {
+pub fn number(word: &str) -> Result<u64, Fail> {
     Ok(word.parse::<u64>().ok().ok_or("a number")?)
 }
 

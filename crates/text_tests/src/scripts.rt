@@ -54,206 +54,218 @@ fn count_of(alloc: Global, text: &[u8]) -> Option<usize> {
     }
 }
 
+// A line, and the cause for which it is wrong.
+const LINES: &str = r#"fly => verb
+  => words
+  op 1 1 a remove => words
+op => words
+op 1 => words
+op 1 1 => words
+op 1 1 a => words
+op 1 1 a  => words
+op 1 1 a  writefull 61 => words
+op 1 1 a remove  => words
+op 1 1  remove => words
+op  1 1 a remove => words
+Op 1 1 a remove => verb
+OP => verb
+opp 1 1 a remove => verb
+; 1 1 a remove => verb
+op 007 1 a remove => number
+op +1 1 a remove => number
+op x 1 a remove => number
+op - 1 a remove => number
+op 4611686018427387905 1 a remove => number
+op 18446744073709551617 1 a remove => number
+op 0 1 a remove => client
+op 257 1 a remove => client
+op 65537 1 a remove => client
+op 4611686018427387904 1 a remove => client
+op 257 x - fly => client
+op 1 01 a remove => number
+op 1 00 a remove => number
+op 1 4611686018427387905 a remove => number
+op 1 10000000000000000000 a remove => number
+op 1 - a remove => number
+op 1 1 - remove => name
+op 1 1 a; remove => name
+op 1 1 ; remove => name
+op 1 x - remove => number
+op 1 1 - fly => name
+op 1 1 a fly => subop
+op 1 1 a ; remove => subop
+op 1 1 a Remove => subop
+op 1 1 a remove ; ; remove => subop
+op 1 1 a remove ; => words
+op 1 1 a remove ;  => words
+op 1 1 a remove remove => words
+op 1 1 a remove fly => words
+op 1 1 a remove 1 ; fly => words
+op 1 1 a writefull => words
+op 1 1 a writefull ; => words
+op 1 1 a writefull ; remove => words
+op 1 1 a write 0 ; remove => words
+op 1 1 a write ; 61 => words
+op 1 1 a writefull AB => hex
+op 1 1 a writefull abc => hex
+op 1 1 a writefull -61 => hex
+op 1 1 a writefull 6g => hex
+op 1 1 a writefull -- => hex
+op 1 1 a writefull 6g ; fly => hex
+op 1 1 a fly ; writefull 6g => subop
+op 1 1 a writefull 61 62 => words
+op 1 1 a write 61 6 => hex
+op 1 1 a write 0x 61 => number
+op 1 1 a write -1 61 => number
+op 1 1 a truncate => words
+op 1 1 a truncate 4611686018427387905 => number
+op 1 1 a zero 0 x => number
+op 1 1 a setxattr - 61 => name
+op 1 1 a setxattr k 6 => hex
+op 1 1 a setxattr k => words
+op 1 1 a rmxattr k; => name
+op 1 1 a assert_ver v => number
+op 1 1 a cmpxattr k => words
+op 1 1 a snap => left-out snap
+op 1 1 a clone b => left-out clone
+op 1 1 a remove ; rollback => left-out rollback
+op 1 1 a exec => left-out exec
+op 1 1 a lock ; fly => left-out lock
+op 1 1 a stat => mixed 0
+op 1 1 a assert_exists => mixed 0
+op 1 1 a remove ; stat => mixed 1
+op 1 1 a assert_exists ; stat ; remove => mixed 2
+op 1 1 a remove ; stat ; fly => subop
+get 1 a remove => mixed 0
+get 1 a stat ; assert_exists ; remove => mixed 2
+get 1 a assert_exists ; remove => mixed 0
+get 1 a => words
+get => words
+get x a stat => number
+get 0 a stat => client
+get 1 a read 0 => words
+get 1 a read 0 0 0 => words
+get 1 a read 00 0 => number
+get 1 a read 0 0 ;read 0 0 => words
+get 1 a omaplist a; 1 => name
+get 1 a omaplist - x => number
+get 1 a omaplist - => words
+get 1 1 a stat => subop
+snap a => left-out snap
+rollback => left-out rollback
+watch a b c => left-out watch
+notify => left-out notify
+unlock => left-out unlock
+dedup a => left-out dedup
+redirect a b => left-out redirect
+snapshot a => verb
+flush => words
+flush - => name
+flush a b => words
+tryflush a; => name
+begin => words
+begin a => verb
+begin snap a => verb
+begin flush => words
+begin flush - => name
+begin tryflush a b => words
+finish => words
+evict a a => words
+drain a => words
+agent  => words
+mode => words
+mode off => mode
+mode Proxy => mode
+mode proxy x => words
+mode forward => left-out forward
+mode readforward => left-out readforward
+mode readonly x => left-out readonly
+time => words
+time x => number
+time 1 2 => words
+time 4611686018427387905 => number
+stop => words
+stop all => verb
+stop cache now => words
+stop snap => verb
+end => par
+end x => words
+par => par
+par x => words"#;
+
 #[test]
 fn wrong_lines(rt: HostRuntime) -> Result<(), Fail> {
-    let cases: [(&[u8], &str); 137] = [
-        (b"fly", "verb"),
-        (b" ", "words"),
-        (b"  op 1 1 a remove", "words"),
-        (b"op", "words"),
-        (b"op 1", "words"),
-        (b"op 1 1", "words"),
-        (b"op 1 1 a", "words"),
-        (b"op 1 1 a ", "words"),
-        (b"op 1 1 a  writefull 61", "words"),
-        (b"op 1 1 a remove ", "words"),
-        (b"op 1 1  remove", "words"),
-        (b"op  1 1 a remove", "words"),
-        (b"Op 1 1 a remove", "verb"),
-        (b"OP", "verb"),
-        (b"opp 1 1 a remove", "verb"),
-        (b"; 1 1 a remove", "verb"),
-        (b"op 007 1 a remove", "number"),
-        (b"op +1 1 a remove", "number"),
-        (b"op x 1 a remove", "number"),
-        (b"op - 1 a remove", "number"),
-        (b"op 4611686018427387905 1 a remove", "number"),
-        (b"op 18446744073709551617 1 a remove", "number"),
-        (b"op 0 1 a remove", "client"),
-        (b"op 257 1 a remove", "client"),
-        (b"op 65537 1 a remove", "client"),
-        (b"op 4611686018427387904 1 a remove", "client"),
-        (b"op 257 x - fly", "client"),
-        (b"op 1 01 a remove", "number"),
-        (b"op 1 00 a remove", "number"),
-        (b"op 1 4611686018427387905 a remove", "number"),
-        (b"op 1 10000000000000000000 a remove", "number"),
-        (b"op 1 - a remove", "number"),
-        (b"op 1 1 - remove", "name"),
-        (b"op 1 1 a; remove", "name"),
-        (b"op 1 1 ; remove", "name"),
-        (b"op 1 x - remove", "number"),
-        (b"op 1 1 - fly", "name"),
-        (b"op 1 1 a fly", "subop"),
-        (b"op 1 1 a ; remove", "subop"),
-        (b"op 1 1 a Remove", "subop"),
-        (b"op 1 1 a remove ; ; remove", "subop"),
-        (b"op 1 1 a remove ;", "words"),
-        (b"op 1 1 a remove ; ", "words"),
-        (b"op 1 1 a remove remove", "words"),
-        (b"op 1 1 a remove fly", "words"),
-        (b"op 1 1 a remove 1 ; fly", "words"),
-        (b"op 1 1 a writefull", "words"),
-        (b"op 1 1 a writefull ;", "words"),
-        (b"op 1 1 a writefull ; remove", "words"),
-        (b"op 1 1 a write 0 ; remove", "words"),
-        (b"op 1 1 a write ; 61", "words"),
-        (b"op 1 1 a writefull AB", "hex"),
-        (b"op 1 1 a writefull abc", "hex"),
-        (b"op 1 1 a writefull -61", "hex"),
-        (b"op 1 1 a writefull 6g", "hex"),
-        (b"op 1 1 a writefull --", "hex"),
-        (b"op 1 1 a writefull 6g ; fly", "hex"),
-        (b"op 1 1 a fly ; writefull 6g", "subop"),
-        (b"op 1 1 a writefull 61 62", "words"),
-        (b"op 1 1 a write 61 6", "hex"),
-        (b"op 1 1 a write 0x 61", "number"),
-        (b"op 1 1 a write -1 61", "number"),
-        (b"op 1 1 a truncate", "words"),
-        (b"op 1 1 a truncate 4611686018427387905", "number"),
-        (b"op 1 1 a zero 0 x", "number"),
-        (b"op 1 1 a setxattr - 61", "name"),
-        (b"op 1 1 a setxattr k 6", "hex"),
-        (b"op 1 1 a setxattr k", "words"),
-        (b"op 1 1 a rmxattr k;", "name"),
-        (b"op 1 1 a assert_ver v", "number"),
-        (b"op 1 1 a cmpxattr k", "words"),
-        (b"op 1 1 a snap", "left-out snap"),
-        (b"op 1 1 a clone b", "left-out clone"),
-        (b"op 1 1 a remove ; rollback", "left-out rollback"),
-        (b"op 1 1 a exec", "left-out exec"),
-        (b"op 1 1 a lock ; fly", "left-out lock"),
-        (b"op 1 1 a stat", "mixed 0"),
-        (b"op 1 1 a assert_exists", "mixed 0"),
-        (b"op 1 1 a remove ; stat", "mixed 1"),
-        (b"op 1 1 a assert_exists ; stat ; remove", "mixed 2"),
-        (b"op 1 1 a remove ; stat ; fly", "subop"),
-        (b"get 1 a remove", "mixed 0"),
-        (b"get 1 a stat ; assert_exists ; remove", "mixed 2"),
-        (b"get 1 a assert_exists ; remove", "mixed 0"),
-        (b"get 1 a", "words"),
-        (b"get", "words"),
-        (b"get x a stat", "number"),
-        (b"get 0 a stat", "client"),
-        (b"get 1 a read 0", "words"),
-        (b"get 1 a read 0 0 0", "words"),
-        (b"get 1 a read 00 0", "number"),
-        (b"get 1 a read 0 0 ;read 0 0", "words"),
-        (b"get 1 a omaplist a; 1", "name"),
-        (b"get 1 a omaplist - x", "number"),
-        (b"get 1 a omaplist -", "words"),
-        (b"get 1 1 a stat", "subop"),
-        (b"snap a", "left-out snap"),
-        (b"rollback", "left-out rollback"),
-        (b"watch a b c", "left-out watch"),
-        (b"notify", "left-out notify"),
-        (b"unlock", "left-out unlock"),
-        (b"dedup a", "left-out dedup"),
-        (b"redirect a b", "left-out redirect"),
-        (b"snapshot a", "verb"),
-        (b"flush", "words"),
-        (b"flush -", "name"),
-        (b"flush a b", "words"),
-        (b"tryflush a;", "name"),
-        (b"begin", "words"),
-        (b"begin a", "verb"),
-        (b"begin snap a", "verb"),
-        (b"begin flush", "words"),
-        (b"begin flush -", "name"),
-        (b"begin tryflush a b", "words"),
-        (b"finish", "words"),
-        (b"evict a a", "words"),
-        (b"drain a", "words"),
-        (b"agent ", "words"),
-        (b"mode", "words"),
-        (b"mode off", "mode"),
-        (b"mode Proxy", "mode"),
-        (b"mode proxy x", "words"),
-        (b"mode forward", "left-out forward"),
-        (b"mode readforward", "left-out readforward"),
-        (b"mode readonly x", "left-out readonly"),
-        (b"time", "words"),
-        (b"time x", "number"),
-        (b"time 1 2", "words"),
-        (b"time 4611686018427387905", "number"),
-        (b"stop", "words"),
-        (b"stop all", "verb"),
-        (b"stop cache now", "words"),
-        (b"stop snap", "verb"),
-        (b"end", "par"),
-        (b"end x", "words"),
-        (b"par", "par"),
-        (b"par x", "words"),
-    ];
-    for (text, words) in cases {
-        assert!(rt; is_wrong(rt.alloc(), text, 1, words), "{words}");
+    let mut rows = 0u32;
+    for row in LINES.lines() {
+        let (text, words) = row.split_once(" => ").ok_or("a row")?;
+        assert!(rt; is_wrong(rt.alloc(), text.as_bytes(), 1, words), "{text}");
+        rows = rows.saturating_add(1);
     }
+    assert_eq!(rt; rows, 137);
     Ok(())
+}
+
+// A text, with a slash for each newline; the first wrong line, and its cause.
+const TEXTS: &str = r#"// # => 3 words
+get 1 a stat//#/fly => 4 verb
+time 5/time 4 => 2 time
+time 5/time 5//time 4 x => 4 time
+time 5/par/time 4/end => 3 time
+time 5/par/time 6/end => 3 par
+par/flush a/end => 2 par
+par/drain/end => 2 par
+par/par/end/end => 2 par
+par/end/end => 3 par
+par/get 1 a stat/fly => 1 par
+get 1 a stat/par/#end/ end => 2 par
+par/fly/end => 2 verb
+par//get 1 a stat/#x/op 2 1 a stat/end => 5 mixed 0
+par/get 1 a stat/get 2 a stat/get 3 a stat/get 4 a stat/get 5 a stat/get 6 a stat/get 7 a stat/get 8 a stat/get 9 a stat/get 10 a stat/get 11 a stat/get 12 a stat/get 13 a stat/get 14 a stat/get 15 a stat/get 16 a stat/get 1 a stat/op 17 1 a remove/end => 19 par
+get 1 a assert_exists ; assert_exists ; assert_exists ; assert_exists ; assert_exists ; assert_exists ; assert_exists ; assert_exists ; assert_exists ; assert_exists ; assert_exists ; assert_exists ; assert_exists ; assert_exists ; assert_exists ; assert_exists ; assert_exists => 1 many
+get 1 a stat ; remove ; stat ; stat ; stat ; stat ; stat ; stat ; stat ; stat ; stat ; stat ; stat ; stat ; stat ; stat ; stat => 1 many
+op 1 1 a stat ; stat ; stat ; stat ; stat ; stat ; stat ; stat ; stat ; stat ; stat ; stat ; stat ; stat ; stat ; stat ; fly => 1 subop
+get 1 a/fly => 1 words
+mode forward => 1 left-out forward
+end/par => 1 par
+par/end x/end => 2 words"#;
+
+// The text of a row.
+fn text_of(alloc: Global, row: &str) -> Result<String, Fail> {
+    let mut text = String::new(alloc);
+    let mut first = true;
+    for line in row.split('/') {
+        if !first {
+            text.push('\n')?;
+        }
+        first = false;
+        text.push_str(line)?;
+    }
+    Ok(text)
 }
 
 #[test]
 fn wrong_texts(rt: HostRuntime) -> Result<(), Fail> {
-    let cases: [(&[u8], u32, &str); 27] = [
-        (b"get 1 a stat\r\n", 1, "byte"),
-        (b"fly \xc3\xa9", 1, "byte"),
-        (b"\x00", 1, "byte"),
-        (b"op 1 1 a\x7f remove", 1, "byte"),
-        (b"#\xff\nget 1 a\nfly", 2, "words"),
-        (b"\n\n #", 3, "words"),
-        (b"get 1 a stat\n\n#\nfly", 4, "verb"),
-        (b"time 5\ntime 4", 2, "time"),
-        (b"time 5\ntime 5\n\ntime 4 x", 4, "time"),
-        (b"time 5\npar\ntime 4\nend", 3, "time"),
-        (b"time 5\npar\ntime 6\nend", 3, "par"),
-        (b"par\nflush a\nend", 2, "par"),
-        (b"par\ndrain\nend", 2, "par"),
-        (b"par\npar\nend\nend", 2, "par"),
-        (b"par\nend\nend", 3, "par"),
-        (b"par\nget 1 a stat\nfly", 1, "par"),
-        (b"get 1 a stat\npar\n#end\n end", 2, "par"),
-        (b"par\nfly\nend", 2, "verb"),
-        (b"par\n\nget 1 a stat\n#x\nop 2 1 a stat\nend", 5, "mixed 0"),
-        (
-            b"par\nget 1 a stat\nget 2 a stat\nget 3 a stat\nget 4 a stat\nget 5 a stat\nget 6 a stat\nget 7 a stat\nget 8 a stat\nget 9 a stat\nget 10 a stat\nget 11 a stat\nget 12 a stat\nget 13 a stat\nget 14 a stat\nget 15 a stat\nget 16 a stat\nget 1 a stat\nop 17 1 a remove\nend",
-            19,
-            "par",
-        ),
-        (
-            b"get 1 a assert_exists ; assert_exists ; assert_exists ; assert_exists ; assert_exists ; assert_exists ; assert_exists ; assert_exists ; assert_exists ; assert_exists ; assert_exists ; assert_exists ; assert_exists ; assert_exists ; assert_exists ; assert_exists ; assert_exists",
-            1,
-            "many",
-        ),
-        (
-            b"get 1 a stat ; remove ; stat ; stat ; stat ; stat ; stat ; stat ; stat ; stat ; stat ; stat ; stat ; stat ; stat ; stat ; stat",
-            1,
-            "many",
-        ),
-        (
-            b"op 1 1 a stat ; stat ; stat ; stat ; stat ; stat ; stat ; stat ; stat ; stat ; stat ; stat ; stat ; stat ; stat ; stat ; fly",
-            1,
-            "subop",
-        ),
-        (b"get 1 a\nfly", 1, "words"),
-        (b"mode forward", 1, "left-out forward"),
-        (b"end\npar", 1, "par"),
-        (b"par\nend x\nend", 2, "words"),
-    ];
-    for (place, (text, line, words)) in cases.iter().enumerate() {
-        assert!(rt;
-            is_wrong(rt.alloc(), text, *line, words),
-            "case {place}: {words}"
-        );
+    let mut rows = 0u32;
+    for row in TEXTS.lines() {
+        let (text, fault) = row.split_once(" => ").ok_or("a row")?;
+        let (line, words) = fault.split_once(' ').ok_or("a fault")?;
+        let line = line.parse::<u32>().ok().ok_or("a line")?;
+        let text = text_of(rt.alloc(), text)?;
+        assert!(rt; is_wrong(rt.alloc(), text.as_bytes(), line, words), "{row}");
+        rows = rows.saturating_add(1);
     }
+    assert_eq!(rt; rows, 22);
+    Ok(())
+}
+
+#[test]
+fn wrong_bytes(rt: HostRuntime) -> Result<(), Fail> {
+    let alloc = rt.alloc();
+    assert!(rt; is_wrong(alloc, b"get 1 a stat\r\n", 1, "byte"));
+    assert!(rt; is_wrong(alloc, b"fly \xc3\xa9", 1, "byte"));
+    assert!(rt; is_wrong(alloc, b"\x00", 1, "byte"));
+    assert!(rt; is_wrong(alloc, b"op 1 1 a\x7f remove", 1, "byte"));
+    assert!(rt; is_wrong(alloc, b"#\xff\nget 1 a\nfly", 2, "words"));
     Ok(())
 }
 
