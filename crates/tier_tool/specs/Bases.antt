@@ -3,7 +3,7 @@ use Rattle.std.specs.Prelude.{◌≡◌, ◌↔◌, ◌⊎◌, ◌<◌, ◌≤�
 use Rattle.std.specs.FinMap as fin
 use Rattle.store_face.specs.Tables.{Table}
 use Rattle.tier_outside.specs.Moments.{grown}
-use Rattle.store_face.specs.Views.{StoreView, CrashMaps, Now, Holds}
+use Rattle.store_face.specs.Views.{StoreView, CrashMaps, Durable, Now, Holds}
 use Rattle.store_face.specs.Calls.{Stays, Fails}
 use Rattle.rec_codec.specs.Spelling.{SpellsState}
 use Rattle.obj_model.specs.declared.state.NameState.{NameState}
@@ -13,14 +13,11 @@ use Rattle.obj_ops.specs.declared.request.Acted.{Acted}
 use Rattle.obj_ops.specs.declared.request.Acted.TheVariants.{Fresh, Again, Stale, Worn}
 use Rattle.tier_tool.specs.declared.task.Task.{Task}
 use Rattle.tier_tool.specs.declared.task.Task.TheVariants.{Op, Get}
+use Rattle.tier_tool.specs.Costs.{cost, state_key}
 use Rattle.tier_tool.specs.Plain.{Plain, answer, after}
 use Rattle.tier_tool.specs.declared.answer.Answer.{Answer}
 use Rattle.tier_tool.specs.declared.base.LineFault.{LineFault}
 use Rattle.tier_tool.specs.declared.base.LineFault.TheVariants as fault
-
--- the key of a name's state in a base pool: the letter N, and the name
-abbrev pub state_key : List ℕ → List ℕ
-state_key name = 78 ∷ name
 
 -- a name has a state that its key's value spells; a name has none where it has no value, or one that spells none
 abbrev pub IsSpelled : Option (List ℕ) → Option NameState → Type 0
@@ -71,13 +68,14 @@ pub record IsAnswered (line : Task) (t : Table) (new : StoreView) (a : Answer) (
   pub plainly : (p : Plain) → StandsFor t p.store
       → (a ≡ answer p line) × ((after p line).acts ≡ p.acts + acts_more acted) × Holds new (λ u. StandsFor u (after p line).store)
 
--- a map that a stop may leave stands for the store before a line, or for the one after it
-abbrev pub BeforeOrAfter : Plain → Task → Table → Type 0
-BeforeOrAfter p line u = StandsFor u p.store ⊎ StandsFor u (after p line).store
+-- What a stop may leave stands for the store before a line, with so much used; or for the one after it, with its cost used too.
+abbrev pub BeforeOrAfter : Plain → Task → (used : ℕ) → Durable → Type 0
+BeforeOrAfter p line used d =
+    (StandsFor d.table p.store × (d.used ≡ used)) ⊎ (StandsFor d.table (after p line).store × (d.used ≡ used + cost p.store line))
 
 -- what a stop leaves where the disk failed in a line
-abbrev pub InDoubt : Task → Table → CrashMaps → Type 0
-InDoubt line t s = (p : Plain) → StandsFor t p.store → BeforeOrAfter p line s.before.table × BeforeOrAfter p line s.after.table
+abbrev pub InDoubt : Task → Table → (used : ℕ) → CrashMaps → Type 0
+InDoubt line t used s = (p : Plain) → StandsFor t p.store → BeforeOrAfter p line used s.before × BeforeOrAfter p line used s.after
 
 -- where no request acted nothing was written: no moment came
 abbrev pub WritesOnlyIf : Bool → StoreView → StoreView → Type 0
@@ -91,7 +89,7 @@ LineEnds line old new (Ok done) =
 LineEnds line old new (Err (fault.NoSpace used need limit)) =
     Holds old (λ t. (¬ IsUnreadable t (name_of line)) × ((store : Store) → StandsFor t store → ActsOn store line)) × (limit < used + need) × Stays old new
 LineEnds line old new (Err fault.BadRecord) = Holds old (λ t. IsUnreadable t (name_of line)) × Stays old new
-LineEnds line old new (Err fault.Disk) = Holds old (λ t. Now new (InDoubt line t)) × Fails old new
+LineEnds line old new (Err fault.Disk) = Holds old (λ t. Now new (InDoubt line t old.used)) × Fails old new
 LineEnds line old new (Err fault.NoMemory) = Stays old new
 
 -- more moments came; a store that does not tell its maps still does not

@@ -2,13 +2,14 @@
 use Rattle.std.specs.Prelude.{◌≡◌, ◌⊎◌, ◌<◌, ℕ, ◌+◌, List, [], ◌∷◌, ◌++◌, map}
 use Rattle.std.specs.List.{concat}
 use Rattle.store_face.specs.Tables.{Table}
-use Rattle.store_face.specs.Views.{StoreView, Now, Holds}
+use Rattle.store_face.specs.Views.{StoreView, Durable, Now, Holds}
 use Rattle.log_store.specs.Views.{LogView, store_of}
 use Rattle.obj_ops.specs.Stores.{Store}
 use Rattle.tier_tool.specs.declared.task.Numbered.{Numbered}
-use Rattle.tier_tool.specs.Bases.{StandsFor, IsUnreadable, ActsOn, name_of}
+use Rattle.tier_tool.specs.Bases.{BeforeOrAfter, StandsFor, IsUnreadable, ActsOn, name_of}
+use Rattle.tier_tool.specs.Costs.{cost}
 use Rattle.tier_tool.specs.Plain.{Plain, Answered, answered, after, begun}
-use Rattle.tier_tool.specs.Rooms.{HasRoom, cost}
+use Rattle.tier_tool.specs.Rooms.{HasRoom}
 use Rattle.tier_tool.specs.Texts.{line_text, no_space_text, bad_record_text, disk_fault_text}
 
 -- what stands behind some lines: the plain store, and how much of the pool's room is used, in bytes
@@ -117,18 +118,19 @@ EndsAs disk_rose sink_rose said left Whole put status = EndsWhole said left put 
 EndsAs disk_rose sink_rose said left Unheard put status = EndsUnheard sink_rose said put status
 EndsAs disk_rose sink_rose said left (Stopped n) put status = EndsStopped disk_rose sink_rose said left n put status
 
--- A map that is left stands for the store behind the lines that were said; or, where a line was not, for the store with its act too.
-abbrev pub IsLeft : Standing → Ending → Table → Type 0
-IsLeft q Whole u = StandsFor u q.plain.store
-IsLeft q Unheard u = StandsFor u q.plain.store
-IsLeft q (Stopped n) u = StandsFor u q.plain.store ⊎ StandsFor u (after q.plain n.line).store
+-- What is left stands for the store behind the lines that were said, with as much used; or, where a line was not, for the store with its
+-- act too, whose cost is used then.
+abbrev pub IsLeft : Standing → Ending → Durable → Type 0
+IsLeft q Whole d = StandsFor d.table q.plain.store × (d.used ≡ q.used)
+IsLeft q Unheard d = StandsFor d.table q.plain.store × (d.used ≡ q.used)
+IsLeft q (Stopped n) d = BeforeOrAfter q.plain n.line q.used d
 
 -- lines were said in so much room from a map that stands for a store, with so much of the room used
 pub record SaysFrom (t : Table) (room : ℕ) (from : Standing) (lines : List Numbered) (said : List Said) (left : List Numbered) (ending : Ending) (new : StoreView) : Type 0 where
   pub now : Standing
   pub says : Says t room from lines said left now
-  pub before : Now new (λ s. IsLeft now ending s.before.table)
-  pub after_ : Now new (λ s. IsLeft now ending s.after.table)
+  pub before : Now new (λ s. IsLeft now ending s.before)
+  pub after_ : Now new (λ s. IsLeft now ending s.after)
 
 -- Lines were carried out on a pool's store, and what is said of each was put before the next: what was put, and the status.
 pub record TellsLines (lines : List Numbered) (old new : LogView) (disk_rose sink_rose : Type 0) (put : List ℕ) (status : ℕ) : Type 0 where

@@ -12,7 +12,7 @@ use Rattle.tier_outside.specs.DiskMoments.{Now, SomeImage}
 use Rattle.tier_outside.specs.Streams.{Loses, Gains}
 use Rattle.store_face.specs.Tables.{Table}
 use Rattle.log_image.specs.Fronts.{IsBad, IsOf}
-use Rattle.log_image.specs.Images.{HoldsMap}
+use Rattle.log_image.specs.Images.{HoldsLog}
 use Rattle.store_face.specs.Views.{Durable}
 use Rattle.log_store.specs.Opens.{OpeningStops, OpensAs}
 use Rattle.tier_tool.specs.declared.pair.DiskPair.{DiskPair}
@@ -152,13 +152,14 @@ pub record RefusesImage (sink_rose : Type 0) (base_old base_new : Option (List D
   pub told : MakesAndTells (why ∷ []) 5 sink_rose put status
 
 -- Lines were said in so much room from a map that stands for a store, with so much of the room used: each is answered as the plain store
--- answers it, or refused where its record does not fit. Whatever a stop leaves of the disk that is handed back holds a map that stands for
--- the plain store behind the lines that were said; or, where a line was begun that was not said, for that store with its act too. So an
+-- answers it, or refused where its record does not fit. Whatever a stop leaves of the disk that is handed back is a log whose map stands
+-- for the plain store behind the lines that were said, with as much of the room used; or, where a line was begun that was not said, for
+-- that store with its act too, and with the record of it used. So an
 -- act that was told survives any stop.
 pub record SaidFrom (t : Table) (room : ℕ) (from : Standing) (lines : List Numbered) (said : List Said) (left : List Numbered) (ending : Ending) (base_new : Option (List DiskMoment)) : Type 0 where
   pub now : Standing
   pub says : Says t room from lines said left now
-  pub kept : Now base_new (λ e. EachImage e (λ image. (u : Table) × HoldsMap Base 257 image u × IsLeft now ending u))
+  pub kept : Now base_new (λ e. EachImage e (λ image. (log : Durable) × HoldsLog Base 257 image log × IsLeft now ending log))
 
 -- Lines are carried out on the base from the log that an image of its disk was opened as. The base of the first pair has the number 257.
 pub record CarriesLines (lines : List Numbered) (room : ℕ) (disk_rose sink_rose : Type 0) (base_old base_new : Option (List DiskMoment)) (put : List ℕ) (status : ℕ) : Type 0 where

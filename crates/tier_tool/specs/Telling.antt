@@ -39,7 +39,7 @@ pub record IsSaid (n : Numbered) (s : Said) (before acts : ℕ) (old new : LogVi
 
 -- nothing is said of a line: a stop leaves what was there before it, or that with its act
 abbrev pub LeavesInDoubt : Numbered → StoreView → StoreView → Type 0
-LeavesInDoubt n old new = Holds old (λ t. Now new (InDoubt n.line t))
+LeavesInDoubt n old new = Holds old (λ t. Now new (InDoubt n.line t old.used))
 
 -- a text was written, or memory lacked for it
 abbrev pub IsInWords : Result (Unit {0}) NoMemory → Result (Unit {0}) Unsaid → Type 0
