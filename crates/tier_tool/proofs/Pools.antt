@@ -1,5 +1,5 @@
 -- How the calls on a pool's store end, from what its clauses say of its moments.
-use Rattle.std.proofs.Common.{◌≡◌, ◌⊎◌, inl, inr, ℕ, true, List, [], ◌∷◌, Option, Ok, Err, refl, sym, ap, ap₂, subst, ◌∙◌, arith}
+use Rattle.std.proofs.Common.{◌≡◌, ◌⊎◌, inl, inr, ℕ, true, List, [], ◌∷◌, Ok, Err, refl, sym, ap, ap₂, subst, ◌∙◌, arith}
 use Rattle.obj_model.specs.declared.change.Change.{Change}
 use Rattle.obj_model.specs.declared.change.Change.TheVariants.{Put}
 use Rattle.obj_model.specs.declared.state.NameState.{NameState}
@@ -9,7 +9,7 @@ use Rattle.log_store.specs.Views.{LogView, store_of}
 use Rattle.store_face.specs.Rooms.{Lack, record_size}
 use Rattle.store_face.specs.Rooms.Room.{LogRoom}
 use Rattle.store_face.specs.Tables.{Table, changed_by}
-use Rattle.store_face.specs.Views.{CrashMaps, Durable, Grows, Holds, IsBehind, IsOne, Now, Sound, StoreView, no_map}
+use Rattle.store_face.specs.Views.{Durable, Holds, IsBehind, IsOne, Now, Sound, StoreView, no_map}
 use Rattle.store_face.specs.Calls.{Between, Both, Committed, Fails, Stays}
 use Rattle.store_face.specs.declared.fault.StoreFault.{StoreFault}
 use Rattle.store_face.specs.declared.fault.StoreFault.TheVariants as store

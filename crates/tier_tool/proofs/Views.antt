@@ -1,5 +1,5 @@
 -- What is known of a store now, and how it goes on over calls.
-use Rattle.std.proofs.Common.{◌≡◌, List, [], ◌++◌, Option, Some, None, ap, ◌∙◌}
+use Rattle.std.proofs.Common.{◌≡◌, List, [], ◌++◌, Option, ap, ◌∙◌}
 use Rattle.tier_outside.specs.Moments as moments
 use Rattle.tier_outside.specs.Moments.{grown}
 use Rattle.tier_outside.proofs.Moments as laws
