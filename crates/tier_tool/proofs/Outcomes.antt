@@ -165,8 +165,10 @@ pub ends_not_put : (req : Req) (s next : NameState) (reply : Reply) (old mid new
     → Holds old (Has req.name s) → Stays old mid → WasPut req.name next mid new (Err f) → LineEnds (Op req) old new (Err f)
 ends_not_put req s next reply old mid new (fault.NoSpace used need limit) is has stays put = (acting req s next reply old is has, put.0, stays_twice old mid new stays put.1)
 ends_not_put req s next reply old mid new fault.BadRecord is has stays put = absurd put
-ends_not_put req s next reply old mid new fault.Disk is has stays put =
-    (in_doubt_put req s next reply old.used old new is has
-    (subst (λ used. Holds old (λ t. Now new (IsTorn req.name next t used))) stays.used
-    (now_same mid.moments old.moments (λ was. Now new (IsTorn req.name next was.before.table mid.used)) stays.moments put.0)), fails_later old mid new stays put.1)
+ends_not_put req s next reply old mid new fault.Disk is has stays put = (
+  in_doubt_put req s next reply old.used old new is has
+      (subst (λ used. Holds old (λ t. Now new (IsTorn req.name next t used))) stays.used
+      (now_same mid.moments old.moments (λ was. Now new (IsTorn req.name next was.before.table mid.used)) stays.moments put.0)),
+  fails_later old mid new stays put.1,
+)
 ends_not_put req s next reply old mid new fault.NoMemory is has stays put = stays_twice old mid new stays put

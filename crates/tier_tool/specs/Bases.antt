@@ -19,14 +19,16 @@ use Rattle.tier_tool.specs.declared.answer.Answer.{Answer}
 use Rattle.tier_tool.specs.declared.base.LineFault.{LineFault}
 use Rattle.tier_tool.specs.declared.base.LineFault.TheVariants as fault
 
--- a name has a state that its key's value spells; a name has none where it has no value, or one that spells none
+-- a name has a state that its key's value spells; a name has none where it has no value, or one
+-- that spells none
 abbrev pub IsSpelled : Option (List ℕ) → Option NameState → Type 0
 IsSpelled None None = Unit {0}
 IsSpelled None (Some s) = ⊥
 IsSpelled (Some bytes) None = (s : NameState) → ¬ SpellsState bytes s
 IsSpelled (Some bytes) (Some s) = SpellsState bytes s
 
--- The map of a base pool stands for a plain object store: each name has in the store the state that its value in the map spells.
+-- The map of a base pool stands for a plain object store: each name has in the store the state that
+-- its value in the map spells.
 pub record StandsFor (t : Table) (store : Store) : Type 0 where
   pub each : (name : List ℕ) → IsSpelled (fin.get t (state_key name)) (fin.get store name)
 
@@ -61,14 +63,16 @@ ActsOn store (Get client name vector) = ⊥
 abbrev pub acts_more : Bool → ℕ
 acts_more acted = if acted then 1 else 0
 
--- A line was answered from a map that stands for a store as the plain store answers it, and the map now stands for the store after it.
+-- A line was answered from a map that stands for a store as the plain store answers it, and the map
+-- now stands for the store after it.
 pub record IsAnswered (line : Task) (t : Table) (new : StoreView) (a : Answer) (acted : Bool) : Type 0 where
   pub readable : ¬ IsUnreadable t (name_of line)
   pub unreadable : Holds new (SameUnreadable t)
   pub plainly : (p : Plain) → StandsFor t p.store
       → (a ≡ answer p line) × ((after p line).acts ≡ p.acts + acts_more acted) × Holds new (λ u. StandsFor u (after p line).store)
 
--- What a stop may leave stands for the store before a line, with so much used; or for the one after it, with its cost used too.
+-- What a stop may leave stands for the store before a line, with so much used; or for the one after
+-- it, with its cost used too.
 abbrev pub BeforeOrAfter : Plain → Task → (used : ℕ) → Durable → Type 0
 BeforeOrAfter p line used d =
     (StandsFor d.table p.store × (d.used ≡ used)) ⊎ (StandsFor d.table (after p line).store × (d.used ≡ used + cost p.store line))
@@ -82,7 +86,8 @@ abbrev pub WritesOnlyIf : Bool → StoreView → StoreView → Type 0
 WritesOnlyIf true old new = Unit {0}
 WritesOnlyIf false old new = new.moments ≡ old.moments
 
--- What a line is answered, with whether it acted; or why it is not carried out. Only a disk that failed may leave an act behind.
+-- What a line is answered, with whether it acted; or why it is not carried out. Only a disk that
+-- failed may leave an act behind.
 abbrev pub LineEnds : Task → StoreView → StoreView → Result (Answer × Bool) LineFault → Type 0
 LineEnds line old new (Ok done) =
     Holds old (λ t. IsAnswered line t new done.0 done.1) × (new.live ≡ true) × (old.faults ≤ new.faults) × WritesOnlyIf done.1 old new

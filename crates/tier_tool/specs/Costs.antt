@@ -20,7 +20,8 @@ state_key name = 78 ∷ name
 abbrev pub change_of : List ℕ → NameState → List Change
 change_of name s = Put (state_key name) (state_bytes s) ∷ []
 
--- What a request of this name takes of the room where it was answered so: where it acts, the record of its change.
+-- What a request of this name takes of the room where it was answered so: where it acts, the record
+-- of its change.
 abbrev pub cost_of : List ℕ → Acted → ℕ
 cost_of name (Fresh s reply) = record_size (change_of name s)
 cost_of name (Again reply) = 0

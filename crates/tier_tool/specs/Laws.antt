@@ -36,7 +36,8 @@ LaterLinesChangeNothing before others =
 abbrev pub RequestsMakeTheStore : List Numbered → Type 0
 RequestsMakeTheStore lines = (store : Store) → (behind lines (begun store)).store ≡ replay store (requests lines)
 
--- A run that opens a disk which is a log goes on from the plain store that its map stands for, with as much of the room used.
+-- A run that opens a disk which is a log goes on from the plain store that its map stands for, with
+-- as much of the room used.
 abbrev pub TheNextRunGoesOn : Type 0
 TheNextRunGoesOn =
     (image : List ℕ) (was log : Durable) (store : Store) → HoldsLog Base 257 image was → StandsFor was.table store → OpensAs Base 257 log image

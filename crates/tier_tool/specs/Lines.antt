@@ -25,7 +25,8 @@ standing store used = record { plain = begun store; used = used }
 abbrev pub behind_line : Standing → Numbered → Standing
 behind_line p n = record { plain = after p.plain n.line; used = p.used + cost p.plain.store n.line }
 
--- What is said of a line: its answer; or that the pool has no room for its act; or that the name's value spells no state.
+-- What is said of a line: its answer; or that the pool has no room for its act; or that the name's
+-- value spells no state.
 pub data Said : Type 0 where
   Given : Answered → Said
   NoRoom : (number used more limit : ℕ) → Said
@@ -41,9 +42,10 @@ said_text (BadRecord number name) = bad_record_text number name
 abbrev pub texts_of : List Said → List ℕ
 texts_of said = concat (map said_text said)
 
--- What is said of one line, from a map with such unreadable names, in so much room, over what stands before the line; and what stands
--- behind it. It has the plain store's answer, at its place, where its record fits into the room, and uses that; or it would act, and its
--- record does not fit, and it changes nothing; or its name is unreadable.
+-- What is said of one line, from a map with such unreadable names, in so much room, over what
+-- stands before the line; and what stands behind it. It has the plain store's answer, at its place,
+-- where its record fits into the room, and uses that; or it would act, and its record does not fit,
+-- and it changes nothing; or its name is unreadable.
 abbrev pub LineSays : Table → (room : ℕ) → Standing → Numbered → Said → Standing → Type 0
 LineSays t room p n (Given a) q =
     (¬ IsUnreadable t (name_of n.line)) × (a ≡ answered p.plain n) × HasRoom room p.used p.plain.store n.line × (q ≡ behind_line p n)
@@ -52,13 +54,15 @@ LineSays t room p n (NoRoom number used more limit) q =
     × (more ≡ cost p.plain.store n.line) × (limit ≡ room) × (room < used + more) × (q ≡ p)
 LineSays t room p n (BadRecord number name) q = IsUnreadable t name × (number ≡ n.number) × (name ≡ name_of n.line) × (q ≡ p)
 
--- What is said of the first lines, one after another; the lines that are left; and what stands behind those that were said.
+-- What is said of the first lines, one after another; the lines that are left; and what stands
+-- behind those that were said.
 abbrev pub Says : Table → (room : ℕ) → Standing → List Numbered → List Said → List Numbered → Standing → Type 0
 Says t room p lines [] left q = (left ≡ lines) × (q ≡ p)
 Says t room p [] (s ∷ ss) left q = ⊥
 Says t room p (n ∷ ns) (s ∷ ss) left q = (m : Standing) × LineSays t room p n s m × Says t room m ns ss left q
 
--- How a run of lines ends: all lines were said; or the sink failed at the last that was; or it stopped in a line that was not said.
+-- How a run of lines ends: all lines were said; or the sink failed at the last that was; or it
+-- stopped in a line that was not said.
 pub data Ending : Type 0 where
   Whole : Ending
   Unheard : Ending
@@ -118,8 +122,8 @@ EndsAs disk_rose sink_rose said left Whole put status = EndsWhole said left put 
 EndsAs disk_rose sink_rose said left Unheard put status = EndsUnheard sink_rose said put status
 EndsAs disk_rose sink_rose said left (Stopped n) put status = EndsStopped disk_rose sink_rose said left n put status
 
--- What is left stands for the store behind the lines that were said, with as much used; or, where a line was not, for the store with its
--- act too, whose cost is used then.
+-- What is left stands for the store behind the lines that were said, with as much used; or, where a
+-- line was not, for the store with its act too, whose cost is used then.
 abbrev pub IsLeft : Standing → Ending → Durable → Type 0
 IsLeft q Whole d = StandsFor d.table q.plain.store × (d.used ≡ q.used)
 IsLeft q Unheard d = StandsFor d.table q.plain.store × (d.used ≡ q.used)
@@ -132,7 +136,8 @@ pub record SaysFrom (t : Table) (room : ℕ) (from : Standing) (lines : List Num
   pub before : Now new (λ s. IsLeft now ending s.before)
   pub after_ : Now new (λ s. IsLeft now ending s.after)
 
--- Lines were carried out on a pool's store, and what is said of each was put before the next: what was put, and the status.
+-- Lines were carried out on a pool's store, and what is said of each was put before the next: what
+-- was put, and the status.
 pub record TellsLines (lines : List Numbered) (old new : LogView) (disk_rose sink_rose : Type 0) (put : List ℕ) (status : ℕ) : Type 0 where
   pub said : List Said
   pub left : List Numbered

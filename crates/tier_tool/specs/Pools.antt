@@ -15,7 +15,8 @@ use Rattle.tier_tool.specs.Costs.{change_of, state_key}
 use Rattle.tier_tool.specs.declared.base.LineFault.{LineFault}
 use Rattle.tier_tool.specs.declared.base.LineFault.TheVariants.{NoSpace, BadRecord, Disk, NoMemory}
 
--- what a failed call of the store means for a line; that the image is bad is never answered by a live store, and that it is worn never by a log
+-- what a failed call of the store means for a line; that the image is bad is never answered by a
+-- live store, and that it is worn never by a log
 abbrev pub line_fault : StoreFault → LineFault
 line_fault store.Disk = Disk
 line_fault (store.BadImage at) = BadRecord
@@ -54,7 +55,8 @@ pub record IsWith (name : List ℕ) (s : NameState) (t u : Table) : Type 0 where
   pub spells : SpellsState bytes s
   pub is : u ≡ fin.insert t (state_key name) bytes
 
--- a stop leaves this map with so much used; or the one with this state for a name, and its record used too
+-- a stop leaves this map with so much used; or the one with this state for a name, and its record
+-- used too
 abbrev pub WithOrWithout : List ℕ → NameState → Table → (used : ℕ) → Durable → Type 0
 WithOrWithout name s t used d =
     ((d.table ≡ t) × (d.used ≡ used)) ⊎ (IsWith name s t d.table × (d.used ≡ used + record_size (change_of name s)))
@@ -64,7 +66,8 @@ pub record IsTorn (name : List ℕ) (s : NameState) (t : Table) (used : ℕ) (si
   pub before : WithOrWithout name s t used sides.before
   pub after : WithOrWithout name s t used sides.after
 
--- the state of a name was put into the map; or the disk failed, and a stop leaves the map before or after; or nothing changed
+-- the state of a name was put into the map; or the disk failed, and a stop leaves the map before or
+-- after; or nothing changed
 abbrev pub WasPut : List ℕ → NameState → StoreView → StoreView → Result (Unit {0}) LineFault → Type 0
 WasPut name s old new (Ok done) = Holds old (λ t. Holds new (IsWith name s t)) × (new.live ≡ true) × (old.faults ≤ new.faults)
 WasPut name s old new (Err (NoSpace used need limit)) = (limit < used + need) × Stays old new

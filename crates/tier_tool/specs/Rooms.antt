@@ -16,8 +16,8 @@ use Rattle.tier_tool.specs.declared.base.LineFault.TheVariants as fault
 abbrev pub HasRoom : (room used : ℕ) → Store → Task → Type 0
 HasRoom room used store line = ActsOn store line → used + cost store line ≤ room
 
--- A line that is carried out had room where it acts, and takes its cost; it is refused for space exactly where it had none, with these
--- numbers; and where nothing acted nothing was taken.
+-- A line that is carried out had room where it acts, and takes its cost; it is refused for space
+-- exactly where it had none, with these numbers; and where nothing acted nothing was taken.
 abbrev pub LineUses : Task → LogView → LogView → Result (Answer × Bool) LineFault → Type 0
 LineUses line old new (Ok done) =
     Holds (store_of old) (λ t. (store : Store) → StandsFor t store → HasRoom old.room old.used store line × (new.used ≡ old.used + cost store line))

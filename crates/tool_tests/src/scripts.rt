@@ -53,7 +53,8 @@ fn words_of(alloc: Global, list: &[&str]) -> Result<Vec<String>, Fail> {
     Ok(words)
 }
 
-// A run over a source: its status, and the sink, which fails at the call of this number, where 0 is none.
+// A run over a source: its status, and the sink, which fails at the call of this number, where 0 is
+// none.
 fn run_over<S: Source>(
     rt: &impl Abort,
     alloc: Global,
@@ -81,7 +82,10 @@ fn refused_scripts(rt: HostRuntime) -> Result<(), Fail> {
         (b"op 1 1 a writefull 6g\n", b"script 1 hex\n"),
         // Scripts that are accepted, whose first verb that is not built is told.
         (b"flush a\n", b"script 1 unbuilt\n"),
-        (b"op 1 1 a remove\n\nget 1 a read 0 0\nevict a\nflush a\n", b"script 4 unbuilt\n"),
+        (
+            b"op 1 1 a remove\n\nget 1 a read 0 0\nevict a\nflush a\n",
+            b"script 4 unbuilt\n",
+        ),
         (b"get 1 a read 0 0\ntime 5\n", b"script 2 unbuilt\n"),
         // A script that is refused is told first.
         (b"flush a\nfly\n", b"script 2 verb\n"),
