@@ -1,7 +1,9 @@
-//! The program `rados_tier`: the words of its command line, standard input and output, and the disks of the first pair, which are the files
-//! `cache0.img` and `base0.img` in the folder that it runs in, handed to `tier_main`, whose status is its own.
+//! The program `rados_tier`: the words of its command line, standard input and output, and the
+//! disks of the first pair, which are the files `cache0.img` and `base0.img` in the folder that it
+//! runs in, handed to `tier_main`, whose status is its own.
 //!
-//! A file that is absent is made. Where one cannot be opened the program ends with status 6, and puts nothing.
+//! A file that is absent is made. Where one cannot be opened the program ends with status 6, and
+//! puts nothing.
 #![tactic(auto)]
 
 use file_disk::FileDisk;

@@ -15,7 +15,8 @@ use Rattle.rec_codec.specs.Spelling.{SpellsState}
 use Rattle.rec_codec.proofs.BlockLaws.{name_short}
 use Rattle.rec_codec.proofs.Whole.{states_apart}
 use Rattle.store_face.specs.Tables.{Table}
-use Rattle.tier_tool.specs.Bases.{state_key, IsSpelled, StandsFor, IsUnreadable, SameUnreadable}
+use Rattle.tier_tool.specs.Costs.{state_key}
+use Rattle.tier_tool.specs.Bases.{IsSpelled, StandsFor, IsUnreadable, SameUnreadable}
 use Rattle.tier_tool.specs.Pools.{IsStateOf, Has, IsWith}
 use Rattle.tier_tool.proofs.Lengths.{spelling_short}
 

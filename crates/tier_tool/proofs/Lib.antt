@@ -9,6 +9,5 @@ pub mod Pools
 pub mod Rooms
 pub mod Runs
 pub mod Said
-pub mod Tasks
 pub mod Told
 pub mod Views

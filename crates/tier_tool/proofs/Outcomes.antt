@@ -1,5 +1,5 @@
 -- How a line ends, by what was found under its name and what was put there.
-use Rattle.std.proofs.Common.{◌≡◌, ◌⊎◌, inl, inr, ℕ, ◌+◌, true, false, List, Option, Some, None, Result, Ok, Err, refl, sym, ap, subst, ◌∙◌, arith}
+use Rattle.std.proofs.Common.{◌≡◌, inl, inr, ℕ, ◌+◌, true, false, List, Option, Some, None, Result, Ok, Err, refl, sym, ap, subst, ◌∙◌, arith}
 use Rattle.std.specs.FinMap as fin
 use Rattle.std.specs.List.Sorted.{IsStrictlySortedBy}
 use Rattle.std.specs.Result.{IsErr, IsErrAnd}
@@ -17,13 +17,15 @@ use Rattle.obj_ops.specs.declared.request.Acted.TheVariants.{Fresh}
 use Rattle.tier_tool.specs.declared.task.Task.{Task}
 use Rattle.tier_tool.specs.declared.task.Task.TheVariants.{Op, Get}
 use Rattle.store_face.specs.Tables.{Table}
-use Rattle.store_face.specs.Views.{StoreView, CrashMaps, Now, Holds, no_map}
+use Rattle.store_face.specs.Views.{StoreView, CrashMaps, Durable, Now, Holds, no_map}
 use Rattle.tier_outside.specs.Moments.{last}
 use Rattle.store_face.specs.Calls.{Stays, Got}
 use Rattle.tier_tool.specs.Answers.{of_request, of_reading, replied}
-use Rattle.tier_tool.specs.Bases.{state_key, StandsFor, IsUnreadable, SameUnreadable, name_of, IsFresh, ActsOn, IsAnswered, BeforeOrAfter, InDoubt, LineEnds}
+use Rattle.tier_tool.specs.Bases.{StandsFor, IsUnreadable, SameUnreadable, name_of, IsFresh, ActsOn, IsAnswered, BeforeOrAfter, InDoubt, LineEnds}
+use Rattle.store_face.specs.Rooms.{record_size}
+use Rattle.tier_tool.specs.Costs.{change_of, cost, cost_of, state_key}
 use Rattle.tier_tool.specs.Plain.{Plain, answer, after, after_request, acts_after}
-use Rattle.tier_tool.specs.Pools.{IsStateOf, Has, Found, IsWith, IsTorn, WasPut}
+use Rattle.tier_tool.specs.Pools.{IsStateOf, Has, Found, IsWith, IsTorn, WasPut, WithOrWithout}
 use Rattle.tier_tool.specs.declared.answer.Answer.{Answer}
 use Rattle.tier_tool.specs.declared.base.LineFault.{LineFault}
 use Rattle.tier_tool.specs.declared.base.LineFault.TheVariants as fault
@@ -144,23 +146,29 @@ acting req s next reply old is has =
     now_weaker old.moments (λ was. Has req.name s was.before.table) (λ was. (¬ IsUnreadable was.before.table req.name) × ((store : Store) → StandsFor was.before.table store → ActsOn store (Op req)))
     (λ was h. (has_readable was.before.table req.name s h, λ store stands. subst IsFresh (sym (acts_so req s (Fresh next reply) was.before.table store is h stands)) tt)) has
 
-one_side : (req : Req) (s next : NameState) (reply : Reply) (t u : Table) (p : Plain) → act s req ≡ Fresh next reply → Has req.name s t → StandsFor t p.store
-    → (u ≡ t) ⊎ IsWith req.name next t u → BeforeOrAfter p (Op req) u
-one_side req s next reply t u p is has stands (inl e) = inl (subst (λ (w : Table). StandsFor w p.store) (sym e) stands)
-one_side req s next reply t u p is has stands (inr put) = inr (after_put req s next reply t u p.store is has stands put)
+one_side : (req : Req) (s next : NameState) (reply : Reply) (t : Table) (used : ℕ) (d : Durable) (p : Plain) → act s req ≡ Fresh next reply → Has req.name s t
+    → StandsFor t p.store → WithOrWithout req.name next t used d → BeforeOrAfter p (Op req) used d
+one_side req s next reply t used d p is has stands (inl same) = inl (subst (λ (w : Table). StandsFor w p.store) (sym same.0) stands, same.1)
+one_side req s next reply t used d p is has stands (inr put) =
+    let so : cost p.store (Op req) ≡ record_size (change_of req.name next) = ap (cost_of req.name) (acts_so req s (Fresh next reply) t p.store is has stands) in
+    inr (after_put req s next reply t d.table p.store is has stands put.0, omega (arith, put.1, so))
 
-in_doubt_put : (req : Req) (s next : NameState) (reply : Reply) (old new : StoreView) → act s req ≡ Fresh next reply → Holds old (Has req.name s) → Holds old (λ t. Now new (IsTorn req.name next t))
-    → Holds old (λ t. Now new (InDoubt (Op req) t))
-in_doubt_put req s next reply old new is has torn =
-    now_two old.moments (λ was. Has req.name s was.before.table) (λ was. Now new (IsTorn req.name next was.before.table)) (λ was. Now new (InDoubt (Op req) was.before.table))
-    (λ was h. now_weaker new.moments (IsTorn req.name next was.before.table) (InDoubt (Op req) was.before.table)
-    (λ n torn p stands. (one_side req s next reply was.before.table n.before.table p is h stands torn.before, one_side req s next reply was.before.table n.after.table p is h stands torn.after))) has torn
+in_doubt_put : (req : Req) (s next : NameState) (reply : Reply) (used : ℕ) (old new : StoreView) → act s req ≡ Fresh next reply → Holds old (Has req.name s)
+    → Holds old (λ t. Now new (IsTorn req.name next t used)) → Holds old (λ t. Now new (InDoubt (Op req) t used))
+in_doubt_put req s next reply used old new is has torn =
+    now_two old.moments (λ was. Has req.name s was.before.table) (λ was. Now new (IsTorn req.name next was.before.table used)) (λ was. Now new (InDoubt (Op req) was.before.table used))
+    (λ was h. now_weaker new.moments (IsTorn req.name next was.before.table used) (InDoubt (Op req) was.before.table used)
+    (λ n torn p stands. (one_side req s next reply was.before.table used n.before p is h stands torn.before, one_side req s next reply was.before.table used n.after p is h stands torn.after))) has torn
 
 -- a request that acted, and whose state was not put
 pub ends_not_put : (req : Req) (s next : NameState) (reply : Reply) (old mid new : StoreView) (f : LineFault) → act s req ≡ Fresh next reply
     → Holds old (Has req.name s) → Stays old mid → WasPut req.name next mid new (Err f) → LineEnds (Op req) old new (Err f)
 ends_not_put req s next reply old mid new (fault.NoSpace used need limit) is has stays put = (acting req s next reply old is has, put.0, stays_twice old mid new stays put.1)
 ends_not_put req s next reply old mid new fault.BadRecord is has stays put = absurd put
-ends_not_put req s next reply old mid new fault.Disk is has stays put =
-    (in_doubt_put req s next reply old new is has (now_same mid.moments old.moments (λ was. Now new (IsTorn req.name next was.before.table)) stays.moments put.0), fails_later old mid new stays put.1)
+ends_not_put req s next reply old mid new fault.Disk is has stays put = (
+  in_doubt_put req s next reply old.used old new is has
+      (subst (λ used. Holds old (λ t. Now new (IsTorn req.name next t used))) stays.used
+      (now_same mid.moments old.moments (λ was. Now new (IsTorn req.name next was.before.table mid.used)) stays.moments put.0)),
+  fails_later old mid new stays put.1,
+)
 ends_not_put req s next reply old mid new fault.NoMemory is has stays put = stays_twice old mid new stays put

@@ -1,22 +1,23 @@
 -- How the calls on a pool's store end, from what its clauses say of its moments.
-use Rattle.std.proofs.Common.{◌≡◌, ◌⊎◌, inl, inr, ℕ, true, List, [], ◌∷◌, Option, Ok, Err, refl, sym, ap, ap₂, subst, ◌∙◌, arith}
+use Rattle.std.proofs.Common.{◌≡◌, ◌⊎◌, inl, inr, ℕ, true, List, [], ◌∷◌, Ok, Err, refl, sym, ap, ap₂, subst, ◌∙◌, arith}
 use Rattle.obj_model.specs.declared.change.Change.{Change}
 use Rattle.obj_model.specs.declared.change.Change.TheVariants.{Put}
 use Rattle.obj_model.specs.declared.state.NameState.{NameState}
 use Rattle.rec_codec.specs.Spelling.{SpellsState}
 use Rattle.tier_outside.proofs.Moments.{grows_now}
 use Rattle.log_store.specs.Views.{LogView, store_of}
-use Rattle.store_face.specs.Rooms.{Lack, Room, record_size}
+use Rattle.store_face.specs.Rooms.{Lack, record_size}
+use Rattle.store_face.specs.Rooms.Room.{LogRoom}
 use Rattle.store_face.specs.Tables.{Table, changed_by}
-use Rattle.store_face.specs.Views.{CrashMaps, Durable, Grows, Holds, IsBehind, IsOne, Now, Sound, StoreView, no_map}
+use Rattle.store_face.specs.Views.{Durable, Holds, IsBehind, IsOne, Now, Sound, StoreView, no_map}
 use Rattle.store_face.specs.Calls.{Between, Both, Committed, Fails, Stays}
 use Rattle.store_face.specs.declared.fault.StoreFault.{StoreFault}
 use Rattle.store_face.specs.declared.fault.StoreFault.TheVariants as store
 use Rattle.tier_tool.proofs.Told.{rose_later}
 pub use Rattle.tier_tool.proofs.Views.{At, now_same, now_two, now_weaker}
-use Rattle.tier_tool.specs.Bases.{state_key}
-use Rattle.tier_tool.specs.Rooms.{change_of, PutUses}
-use Rattle.tier_tool.specs.Pools.{line_fault, IsWith, IsTorn, WasPut}
+use Rattle.tier_tool.specs.Costs.{change_of, state_key}
+use Rattle.tier_tool.specs.Rooms.{PutUses}
+use Rattle.tier_tool.specs.Pools.{line_fault, IsWith, IsTorn, WasPut, WithOrWithout}
 
 -- a call that changed nothing, and one that did not either
 pub stays_twice : (a b c : StoreView) → Stays a b → Stays b c → Stays a c
@@ -50,23 +51,31 @@ with_state : (name bytes : List ℕ) (s : NameState) (t u : Table) → SpellsSta
     → u ≡ changed_by t (puts (state_key name) bytes) → IsWith name s t u
 with_state name bytes s t u h e = record { bytes = bytes; spells = h; is = e }
 
-or_with : (room : Room) (name bytes : List ℕ) (s : NameState) (d e : Durable) → SpellsState bytes s
-    → (e ≡ d) ⊎ IsBehind room (puts (state_key name) bytes) d e → (e.table ≡ d.table) ⊎ IsWith name s d.table e.table
-or_with room name bytes s d e h (inl same) = inl (ap (λ (w : Durable). w.table) same)
-or_with room name bytes s d e h (inr behind) = inr (with_state name bytes s d.table e.table h behind.table)
+with_or : (limit : ℕ) (name bytes : List ℕ) (s : NameState) (d e : Durable) → SpellsState bytes s
+    → (e ≡ d) ⊎ IsBehind (LogRoom limit) (puts (state_key name) bytes) d e → WithOrWithout name s d.table d.used e
+with_or limit name bytes s d e h (inl same) = inl (ap (λ (w : Durable). w.table) same, ap (λ (w : Durable). w.used) same)
+with_or limit name bytes s d e h (inr behind) =
+    let spelled : record_size (puts (state_key name) bytes) ≡ record_size (change_of name s) = ap (λ b. record_size (puts (state_key name) b)) h.spelled in
+    inr (with_state name bytes s d.table e.table h behind.table, omega (arith, behind.used, spelled))
 
-torn : (name bytes : List ℕ) (s : NameState) (old new : StoreView) → SpellsState bytes s → Sound old → old.live ≡ true
-    → Between (puts (state_key name) bytes) old new → Holds old (λ t. Now new (IsTorn name s t))
+torn : (name bytes : List ℕ) (s : NameState) (old new : LogView) → SpellsState bytes s → Sound (store_of old) → old.live ≡ true
+    → Between (puts (state_key name) bytes) (store_of old) (store_of new) → Holds (store_of old) (λ t. Now (store_of new) (IsTorn name s t old.used))
 torn name bytes s old new h sound live grew =
-    grows_now no_map old.moments new.moments
-    (λ was. Both (λ d. (d ≡ was.before) ⊎ IsBehind old.room (puts (state_key name) bytes) was.before d))
-    (λ was. IsTorn name s was.before.table) grew
-    (now_weaker old.moments (IsOne old.used) (λ was. IsTorn name s was.before.table was)
-    (λ was one. record { before = inl refl; after = inl (sym (ap (λ (d : Durable). d.table) one.same)) }) (sound live))
+    now_two old.moments (IsOne old.used) (λ was. At new.moments (IsTorn name s was.before.table was.before.used))
+    (λ was. At new.moments (IsTorn name s was.before.table old.used))
+    (λ was one there. subst (λ used. At new.moments (IsTorn name s was.before.table used)) one.counted there) (sound live)
+    (grows_now no_map old.moments new.moments
+    (λ was. Both (λ d. (d ≡ was.before) ⊎ IsBehind (LogRoom old.room) (puts (state_key name) bytes) was.before d))
+    (λ was. IsTorn name s was.before.table was.before.used) grew
+    (now_weaker old.moments (IsOne old.used) (λ was. IsTorn name s was.before.table was.before.used was)
+    (λ was one. let same = sym one.same in record {
+      before = inl (refl, refl);
+      after = inl (ap (λ (d : Durable). d.table) same, ap (λ (d : Durable). d.used) same);
+    }) (sound live))
     (λ was n both. record {
-      before = or_with old.room name bytes s was.before n.before h both.before;
-      after = or_with old.room name bytes s was.before n.after h both.after;
-    })
+      before = with_or old.room name bytes s was.before n.before h both.before;
+      after = with_or old.room name bytes s was.before n.after h both.after;
+    }))
 
 -- a put that was done
 pub put_done : (name key value bytes : List ℕ) (s : NameState) (old new : StoreView) → key ≡ state_key name → value ≡ bytes → SpellsState bytes s
@@ -85,7 +94,7 @@ put_done name key value bytes s old new e f h done =
 
 failed : (name bytes : List ℕ) (s : NameState) (old new : LogView) (fault : StoreFault) → SpellsState bytes s → Sound (store_of old) → old.live ≡ true
     → Committed (puts (state_key name) bytes) (store_of old) (store_of new) (Err fault) → WasPut name s (store_of old) (store_of new) (Err (line_fault fault))
-failed name bytes s old new store.Disk h sound live done = (torn name bytes s (store_of old) (store_of new) h sound live done.between, done.fails)
+failed name bytes s old new store.Disk h sound live done = (torn name bytes s old new h sound live done.between, done.fails)
 failed name bytes s old new (store.BadImage at) h sound live done = absurd done
 failed name bytes s old new (store.NoSpace used need limit) h sound live done =
     let numbers = done.0.1 in

@@ -16,7 +16,8 @@ use Rattle.tier_tool.specs.declared.task.Task.{Task}
 use Rattle.tier_tool.specs.declared.task.Task.TheVariants.{Op, Get}
 use Rattle.tier_tool.specs.Bases.{StandsFor, IsFresh}
 use Rattle.tier_tool.specs.Pools.{Found, Has}
-use Rattle.tier_tool.specs.Rooms.{change_of, cost, cost_of, HasRoom, LineUses, PutUses}
+use Rattle.tier_tool.specs.Costs.{change_of, cost, cost_of}
+use Rattle.tier_tool.specs.Rooms.{HasRoom, LineUses, PutUses}
 use Rattle.tier_tool.specs.declared.answer.Answer.{Answer}
 use Rattle.tier_tool.specs.declared.base.LineFault.{LineFault}
 use Rattle.tier_tool.specs.declared.base.LineFault.TheVariants as fault

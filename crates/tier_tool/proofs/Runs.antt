@@ -12,7 +12,7 @@ use Rattle.tier_outside.proofs.DiskMoments.{now_since, now_weaker}
 use Rattle.store_face.specs.Tables.{Table}
 use Rattle.store_face.specs.Views.{CrashMaps, Durable, alone, no_map}
 use Rattle.store_face.specs.Views as store
-use Rattle.log_image.specs.Images.{HoldsMap}
+use Rattle.log_image.specs.Images.{HoldsLog}
 use Rattle.log_store.specs.Commits.{SameStore}
 use Rattle.log_store.specs.Opens.{KeepsRefused, Opened, OpeningStops, OpensAs, Refused}
 use Rattle.log_store.specs.Views.{EachHolds, HoldsEither, LogView, store_of}
@@ -84,15 +84,15 @@ ends_weaker disk_rose whole_disk sink_rose said left (Stopped n) put status weak
 }
 
 -- whatever a stop leaves of the disk holds a map that was left
-kept_now : (base : DiskMoments) (s : CrashMaps) (q : Standing) (ending : Ending) → EachHolds Base 257 base s → IsLeft q ending s.before.table → IsLeft q ending s.after.table
-    → Now base (λ e. EachImage e (λ image. (u : Table) × HoldsMap Base 257 image u × IsLeft q ending u))
+kept_now : (base : DiskMoments) (s : CrashMaps) (q : Standing) (ending : Ending) → EachHolds Base 257 base s → IsLeft q ending s.before → IsLeft q ending s.after
+    → Now base (λ e. EachImage e (λ image. (log : Durable) × HoldsLog Base 257 image log × IsLeft q ending log))
 kept_now base s q ending holds before after_ =
-    now_weaker base (λ e. EachImage e (HoldsEither Base 257 s)) (λ e. EachImage e (λ image. (u : Table) × HoldsMap Base 257 image u × IsLeft q ending u))
+    now_weaker base (λ e. EachImage e (HoldsEither Base 257 s)) (λ e. EachImage e (λ image. (log : Durable) × HoldsLog Base 257 image log × IsLeft q ending log))
     (λ e each image is. one image (each image is)) holds
   where
-    one : (image : List ℕ) → HoldsEither Base 257 s image → (u : Table) × HoldsMap Base 257 image u × IsLeft q ending u
-    one image (inl h) = (s.before.table, (s.before.used, h), before)
-    one image (inr h) = (s.after.table, (s.after.used, h), after_)
+    one : (image : List ℕ) → HoldsEither Base 257 s image → (log : Durable) × HoldsLog Base 257 image log × IsLeft q ending log
+    one image (inl h) = (s.before, h, before)
+    one image (inr h) = (s.after, h, after_)
 
 kept_said : (t : Table) (room : ℕ) (from : Standing) (lines : List Numbered) (said : List Said) (left : List Numbered) (ending : Ending) (w : LogView) (base : DiskMoments) (ss more : List CrashMaps)
     → w.moments ≡ moments.grown (Some ss) more → store.Now (store_of w) (EachHolds Base 257 base) → SaysFrom t room from lines said left ending (store_of w)
@@ -103,7 +103,7 @@ kept_said t room from lines said left ending w base ss more grew holds says =
       now = says.now;
       says = says.says;
       kept = kept_now base (moments.last no_map (ss ++ more)) says.now ending (now_same w.moments there (EachHolds Base 257 base) grew holds)
-          (now_same w.moments there (λ s. IsLeft says.now ending s.before.table) grew says.before) (now_same w.moments there (λ s. IsLeft says.now ending s.after.table) grew says.after_);
+          (now_same w.moments there (λ s. IsLeft says.now ending s.before) grew says.before) (now_same w.moments there (λ s. IsLeft says.now ending s.after) grew says.after_);
     }
 
 -- the store that was closed is of the pool and pair that was opened

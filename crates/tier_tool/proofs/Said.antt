@@ -8,10 +8,10 @@ use Rattle.tier_tool.specs.declared.task.Numbered.{Numbered}
 use Rattle.tier_outside.specs.Causes.{Rose}
 use Rattle.tier_tool.specs.declared.task.Task.{Task}
 use Rattle.store_face.specs.Tables.{Table}
-use Rattle.store_face.specs.Views.{StoreView, CrashMaps, Sound, Now, Holds, no_map}
+use Rattle.store_face.specs.Views.{StoreView, CrashMaps, Durable, IsOne, Sound, Now, Holds, no_map}
 use Rattle.tier_outside.specs.Moments.{grown, last}
 use Rattle.store_face.specs.Calls.{Stays}
-use Rattle.tier_tool.specs.Bases.{GoesOn, InDoubt, IsAnswered, IsUnreadable, LineEnds, SameUnreadable, StandsFor, ActsOn, acts_more, name_of}
+use Rattle.tier_tool.specs.Bases.{BeforeOrAfter, GoesOn, InDoubt, IsAnswered, IsUnreadable, LineEnds, SameUnreadable, StandsFor, ActsOn, acts_more, name_of}
 use Rattle.log_store.specs.Commits.{SameStore}
 use Rattle.log_store.specs.Views.{LogView, store_of}
 use Rattle.tier_tool.specs.Lines.{EndsFailed, EndsFailedUnheard, EndsLacking, IsLeft, LineSays, Said, Says, SaysFrom, Standing, TellsLines, behind_line, said_text, standing, texts_of}
@@ -19,7 +19,8 @@ use Rattle.tier_tool.specs.Lines.Ending.{Whole, Unheard, Stopped}
 use Rattle.tier_tool.specs.Lines.Said.{Given, NoRoom, BadRecord}
 use Rattle.tier_tool.specs.Main.{MakesAndTells}
 use Rattle.tier_tool.specs.Plain.{Plain, after}
-use Rattle.tier_tool.specs.Rooms.{HasRoom, LineUses, cost}
+use Rattle.tier_tool.specs.Costs.{cost}
+use Rattle.tier_tool.specs.Rooms.{HasRoom, LineUses}
 use Rattle.tier_tool.specs.Telling.{IsInWords, IsSaid, IsUnheard, IsWritten, LeavesInDoubt, SayEnds, SaysFault, SaysLine, SaysSoFar, StopsIn, TellsLine, ToldSoFar, Words}
 use Rattle.tier_tool.specs.Texts.{disk_fault_text, line_text}
 use Rattle.tier_tool.specs.declared.answer.Answer.{Answer}
@@ -27,39 +28,55 @@ use Rattle.tier_tool.specs.declared.base.LineFault.{LineFault}
 use Rattle.tier_tool.specs.declared.base.LineFault.TheVariants as fault
 use Rattle.tier_tool.specs.declared.saying.Unsaid.{Unsaid}
 use Rattle.tier_tool.specs.declared.saying.Unsaid.TheVariants as unsaid
-use Rattle.tier_tool.proofs.Views.{At, goes_further, nothing_came, now_same, now_then, now_two, now_weaker, one_table}
+use Rattle.tier_tool.proofs.Views.{At, goes_further, nothing_came, now_same, now_then, now_two, now_weaker}
 
 -- ---- one line
 
 abbrev Ended : Type 0
 Ended = Result (Answer × Bool) LineFault
 
-nothing_in_doubt : (n : Numbered) (a b : Option (List CrashMaps)) → b ≡ a → At b (λ s. s.before.table ≡ s.after.table) → At a (λ was. At b (InDoubt n.line was.before.table))
-nothing_in_doubt n None b same one = tt
-nothing_in_doubt n (Some ss) b same one =
-    let there = now_same b (Some ss) (λ (s : CrashMaps). s.before.table ≡ s.after.table) same one in
-    now_same (Some ss) b (InDoubt n.line (last no_map ss).before.table) (sym same)
-    (λ p stands. (inl stands, inl (subst (λ u. StandsFor u p.store) there stands)))
+nothing_in_doubt : (n : Numbered) (used : ℕ) (a b : Option (List CrashMaps)) → b ≡ a → At b (IsOne used)
+    → At a (λ was. At b (InDoubt n.line was.before.table used))
+nothing_in_doubt n used None b same one = tt
+nothing_in_doubt n used (Some ss) b same one =
+    let there = now_same b (Some ss) (IsOne used) same one in
+    now_same (Some ss) b (InDoubt n.line (last no_map ss).before.table used) (sym same) (λ p stands. (
+      inl (stands, there.counted),
+      inl (subst (λ (d : Durable). StandsFor d.table p.store) there.same stands, ap (λ (d : Durable). d.used) (sym there.same) ∙ there.counted),
+    ))
 
-answered_in_doubt : (line : Task) (t : Table) (b : Option (List CrashMaps)) → At b (λ s. s.before.table ≡ s.after.table)
-    → ((p : Plain) → StandsFor t p.store → At b (λ s. StandsFor s.before.table (after p line).store)) → At b (InDoubt line t)
-answered_in_doubt line t None one stands = tt
-answered_in_doubt line t (Some ss) one stands =
-    λ p was. (inr (stands p was), inr (subst (λ u. StandsFor u (after p line).store) one (stands p was)))
+answered_in_doubt : (line : Task) (t : Table) (used behind : ℕ) (b : Option (List CrashMaps)) → At b (IsOne behind)
+    → ((p : Plain) → StandsFor t p.store → behind ≡ used + cost p.store line)
+    → ((p : Plain) → StandsFor t p.store → At b (λ s. StandsFor s.before.table (after p line).store)) → At b (InDoubt line t used)
+answered_in_doubt line t used behind None one costs stands = tt
+answered_in_doubt line t used behind (Some ss) one costs stands =
+    λ p was. (
+      inr (stands p was, one.counted ∙ costs p was),
+      inr (
+        subst (λ (d : Durable). StandsFor d.table (after p line).store) one.same (stands p was),
+        ap (λ (d : Durable). d.used) (sym one.same) ∙ one.counted ∙ costs p was,
+      ),
+    )
 
 -- nothing changed, so nothing is in doubt
 stays_in_doubt : (n : Numbered) (old new : StoreView) → Sound new → old.live ≡ true → Stays old new → LeavesInDoubt n old new
-stays_in_doubt n old new sound live stays = nothing_in_doubt n old.moments new.moments stays.moments (one_table new (sound (stays.live ∙ live)))
+stays_in_doubt n old new sound live stays =
+    nothing_in_doubt n old.used old.moments new.moments stays.moments
+    (subst (λ used. Now new (IsOne used)) stays.used (sound (stays.live ∙ live)))
 
 -- however a line ends, a stop leaves what was there before it, or that with its act
-ends_in_doubt : (n : Numbered) (ended : Ended) (old new : StoreView) → Sound new → old.live ≡ true → LineEnds n.line old new ended → LeavesInDoubt n old new
-ends_in_doubt n (Ok done) old new sound live h =
-    now_weaker old.moments (λ s. IsAnswered n.line s.before.table new done.0 done.1) (λ s. Now new (InDoubt n.line s.before.table))
-    (λ s is. answered_in_doubt n.line s.before.table new.moments (one_table new (sound h.1)) (λ p stands. (is.plainly p stands).2)) h.0
-ends_in_doubt n (Err (fault.NoSpace used need limit)) old new sound live h = stays_in_doubt n old new sound live h.2
-ends_in_doubt n (Err fault.BadRecord) old new sound live h = stays_in_doubt n old new sound live h.1
-ends_in_doubt n (Err fault.Disk) old new sound live h = h.0
-ends_in_doubt n (Err fault.NoMemory) old new sound live h = stays_in_doubt n old new sound live h
+ends_in_doubt : (n : Numbered) (ended : Ended) (old new : LogView) → Sound (store_of new) → old.live ≡ true
+    → LineEnds n.line (store_of old) (store_of new) ended → LineUses n.line old new ended → LeavesInDoubt n (store_of old) (store_of new)
+ends_in_doubt n (Ok done) old new sound live h uses =
+    now_two old.moments (λ s. IsAnswered n.line s.before.table (store_of new) done.0 done.1)
+    (λ s. (store : Store) → StandsFor s.before.table store → HasRoom old.room old.used store n.line × (new.used ≡ old.used + cost store n.line))
+    (λ s. Now (store_of new) (InDoubt n.line s.before.table old.used))
+    (λ s is took. answered_in_doubt n.line s.before.table old.used new.used new.moments (sound h.1) (λ p stands. (took p.store stands).1)
+    (λ p stands. (is.plainly p stands).2)) h.0 uses
+ends_in_doubt n (Err (fault.NoSpace used need limit)) old new sound live h uses = stays_in_doubt n (store_of old) (store_of new) sound live h.2
+ends_in_doubt n (Err fault.BadRecord) old new sound live h uses = stays_in_doubt n (store_of old) (store_of new) sound live h.1
+ends_in_doubt n (Err fault.Disk) old new sound live h uses = h.0
+ends_in_doubt n (Err fault.NoMemory) old new sound live h uses = stays_in_doubt n (store_of old) (store_of new) sound live h
 
 -- a line was answered
 given_is : (n : Numbered) (a : Answer) (acted : Bool) (before acts : ℕ) (old new : LogView) → acts ≡ before + acts_more acted → LineEnds n.line (store_of old) (store_of new) (Ok (a, acted))
@@ -172,7 +189,7 @@ pub answer_said : (n : Numbered) (a : Answer) (acted : Bool) (before acts : ℕ)
 answer_said n a acted before acts old new cleared text written result rose empty sound live counted h uses is text_is =
     written_is n (Given (record { number = n.number; answer = a; place = acts })) before acts old new cleared text result rose empty
     (is_written (text ≡ cleared ++ line_text (record { number = n.number; answer = a; place = acts })) written result is text_is)
-    (given_is n a acted before acts old new counted h uses) (ends_in_doubt n (Ok (a, acted)) (store_of old) (store_of new) sound live h)
+    (given_is n a acted before acts old new counted h uses) (ends_in_doubt n (Ok (a, acted)) old new sound live h uses)
 
 -- a line was not carried out, and why was put into words
 pub fault_said : (n : Numbered) (f : LineFault) (acts : ℕ) (old new : LogView) (cleared text : List ℕ) (result : Result (Unit {0}) Unsaid)
@@ -180,14 +197,14 @@ pub fault_said : (n : Numbered) (f : LineFault) (acts : ℕ) (old new : LogView)
     → SayEnds n acts acts old new text result (Rose old.faults new.faults)
 fault_said n (fault.NoSpace used more limit) acts old new cleared text result empty sound live h uses says =
     written_is n (NoRoom n.number used more limit) acts acts old new cleared text result (Rose old.faults new.faults) empty says
-    (no_room_is n used more limit acts old new live h uses) (ends_in_doubt n (Err (fault.NoSpace used more limit)) (store_of old) (store_of new) sound live h)
+    (no_room_is n used more limit acts old new live h uses) (ends_in_doubt n (Err (fault.NoSpace used more limit)) old new sound live h uses)
 fault_said n fault.BadRecord acts old new cleared text result empty sound live h uses says =
     written_is n (BadRecord n.number (name_of n.line)) acts acts old new cleared text result (Rose old.faults new.faults) empty says
-    (bad_record_is n (name_of n.line) acts old new refl live h uses) (ends_in_doubt n (Err fault.BadRecord) (store_of old) (store_of new) sound live h)
+    (bad_record_is n (name_of n.line) acts old new refl live h uses) (ends_in_doubt n (Err fault.BadRecord) old new sound live h uses)
 fault_said n fault.Disk acts old new cleared text result empty sound live h uses says =
     subst (λ r. SayEnds n acts acts old new text r (Rose old.faults new.faults)) (sym says) (h.0, h.1.rose)
 fault_said n fault.NoMemory acts old new cleared text result empty sound live h uses says =
-    subst (λ r. SayEnds n acts acts old new text r (Rose old.faults new.faults)) (sym says) (ends_in_doubt n (Err fault.NoMemory) (store_of old) (store_of new) sound live h)
+    subst (λ r. SayEnds n acts acts old new text r (Rose old.faults new.faults)) (sym says) (ends_in_doubt n (Err fault.NoMemory) old new sound live h uses)
 
 -- ---- the sink
 
@@ -340,9 +357,21 @@ told_none lines v sound live = record {
 
 -- ---- how a run of lines ends
 
-other_side : (m : Option (List CrashMaps)) (P : Table → Type 0) → At m (λ s. s.before.table ≡ s.after.table) → At m (λ s. P s.before.table) → At m (λ s. P s.after.table)
-other_side None P one h = tt
-other_side (Some ss) P one h = subst P one h
+-- a live store's one map, with as much used as stands behind the lines
+left_before : (v : LogView) (q : Standing) → Now (store_of v) (IsOne v.used) → q.used ≡ v.used → Holds (store_of v) (λ u. StandsFor u q.plain.store)
+    → Now (store_of v) (λ s. StandsFor s.before.table q.plain.store × (s.before.used ≡ q.used))
+left_before v q one taken stands =
+    now_two v.moments (IsOne v.used) (λ s. StandsFor s.before.table q.plain.store) (λ s. StandsFor s.before.table q.plain.store × (s.before.used ≡ q.used))
+    (λ s is there. (there, is.counted ∙ sym taken)) one stands
+
+left_after : (v : LogView) (q : Standing) → Now (store_of v) (IsOne v.used) → q.used ≡ v.used → Holds (store_of v) (λ u. StandsFor u q.plain.store)
+    → Now (store_of v) (λ s. StandsFor s.after.table q.plain.store × (s.after.used ≡ q.used))
+left_after v q one taken stands =
+    now_two v.moments (IsOne v.used) (λ s. StandsFor s.before.table q.plain.store) (λ s. StandsFor s.after.table q.plain.store × (s.after.used ≡ q.used))
+    (λ s is there. (
+      subst (λ (d : Durable). StandsFor d.table q.plain.store) is.same there,
+      ap (λ (d : Durable). d.used) (sym is.same) ∙ is.counted ∙ sym taken,
+    )) one stands
 
 -- no line is left
 pub tells_whole : (lines left : List Numbered) (acts : ℕ) (old new : LogView) (disk_rose sink_rose : Type 0) (put : List ℕ) → left ≡ [] → ToldSoFar lines left acts old new put
@@ -357,8 +386,8 @@ tells_whole lines left acts old new disk_rose sink_rose put none so = record {
       (λ x says store stands. let at = says store stands in record {
         now = at.behind;
         says = at.says;
-        before = at.stands;
-        after_ = other_side new.moments (λ u. StandsFor u at.behind.plain.store) (one_table (store_of new) (so.sound so.live)) at.stands;
+        before = left_before new at.behind (so.sound so.live) at.taken at.stands;
+        after_ = left_after new at.behind (so.sound so.live) at.taken at.stands;
       }) so.from;
 }
 
@@ -388,8 +417,8 @@ unheard_ends lines rest n before acts old mid new disk_rose sink_rose whole_sink
           (λ x says store stands. let at = says store stands in record {
             now = at.behind;
             says = at.says;
-            before = at.stands;
-            after_ = other_side new.moments (λ u. StandsFor u at.behind.plain.store) (one_table (store_of new) (sound unheard.is.live)) at.stands;
+            before = left_before new at.behind (sound unheard.is.live) at.taken at.stands;
+            after_ = left_after new at.behind (sound unheard.is.live) at.taken at.stands;
           }) all.from;
     }
 
@@ -435,12 +464,14 @@ stopped_ends lines rest n before old mid new disk_rose sink_rose whole_disk whol
         let y = last no_map (xs ++ so.goes_on.more) in
         let at = says store stands in
         let was = now_same mid.moments there (λ z. StandsFor z.before.table at.behind.plain.store) grew at.stands in
-        let leaves = now_same mid.moments there (λ z. Now (store_of new) (InDoubt n.line z.before.table)) grew stops.leaves in
+        let leaves = now_same mid.moments there (λ z. Now (store_of new) (InDoubt n.line z.before.table mid.used)) grew stops.leaves in
         record {
           now = at.behind;
           says = at.says;
-          before = now_weaker new.moments (InDoubt n.line y.before.table) (λ s. IsLeft at.behind (Stopped n) s.before.table) (λ s doubt. (doubt at.behind.plain was).0) leaves;
-          after_ = now_weaker new.moments (InDoubt n.line y.before.table) (λ s. IsLeft at.behind (Stopped n) s.after.table) (λ s doubt. (doubt at.behind.plain was).1) leaves;
+          before = now_weaker new.moments (InDoubt n.line y.before.table mid.used) (λ s. IsLeft at.behind (Stopped n) s.before)
+              (λ s doubt. subst (λ used. BeforeOrAfter at.behind.plain n.line used s.before) (sym at.taken) (doubt at.behind.plain was).0) leaves;
+          after_ = now_weaker new.moments (InDoubt n.line y.before.table mid.used) (λ s. IsLeft at.behind (Stopped n) s.after)
+              (λ s doubt. subst (λ used. BeforeOrAfter at.behind.plain n.line used s.after) (sym at.taken) (doubt at.behind.plain was).1) leaves;
         }
 
 -- the run ends at a line

@@ -1,10 +1,10 @@
 -- What is known of a store now, and how it goes on over calls.
-use Rattle.std.proofs.Common.{◌≡◌, List, [], ◌++◌, Option, Some, None, ap, ◌∙◌}
+use Rattle.std.proofs.Common.{◌≡◌, List, [], ◌++◌, Option, ap, ◌∙◌}
 use Rattle.tier_outside.specs.Moments as moments
 use Rattle.tier_outside.specs.Moments.{grown}
 use Rattle.tier_outside.proofs.Moments as laws
 use Rattle.tier_outside.proofs.Moments.{grown_none, grown_twice, then_then}
-use Rattle.store_face.specs.Views.{CrashMaps, Durable, IsOne, Now, StoreView, no_map}
+use Rattle.store_face.specs.Views.{CrashMaps, StoreView, no_map}
 use Rattle.tier_tool.specs.Bases.{GoesOn}
 
 -- where there are moments, the last one has P
@@ -26,11 +26,6 @@ pub now_then : (a b c : Option (List CrashMaps)) (more : List CrashMaps) (P Q R 
     → b ≡ grown a more → ((x y z : CrashMaps) → P x y → Q y z → R x z)
     → At a (λ x. At b (P x)) → At b (λ y. At c (Q y)) → At a (λ x. At c (R x))
 now_then a b c more P Q R grew both h k = then_then no_map a b c more P Q R grew both h k
-
--- the one map of a live store
-pub one_table : (v : StoreView) → Now v (IsOne v.used) → Now v (λ s. s.before.table ≡ s.after.table)
-one_table v one =
-    now_weaker v.moments (IsOne v.used) (λ s. s.before.table ≡ s.after.table) (λ s is. ap (λ (d : Durable). d.table) is.same) one
 
 -- no moment came
 pub nothing_came : (v : StoreView) → GoesOn v v

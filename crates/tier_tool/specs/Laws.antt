@@ -3,8 +3,7 @@ use Rattle.std.specs.Prelude.{◌≡◌, ℕ, List, [], ◌∷◌, ◌++◌}
 use Rattle.obj_model.specs.declared.change.Pool.TheVariants.{Base}
 use Rattle.obj_model.specs.declared.req.Req.{Req}
 use Rattle.obj_ops.specs.Stores.{Store, replay}
-use Rattle.store_face.specs.Tables.{Table}
-use Rattle.log_image.specs.Images.{HoldsMap}
+use Rattle.log_image.specs.Images.{HoldsLog}
 use Rattle.store_face.specs.Views.{Durable}
 use Rattle.log_store.specs.Opens.{OpensAs}
 use Rattle.tier_tool.specs.declared.task.Task.{Task}
@@ -37,7 +36,9 @@ LaterLinesChangeNothing before others =
 abbrev pub RequestsMakeTheStore : List Numbered → Type 0
 RequestsMakeTheStore lines = (store : Store) → (behind lines (begun store)).store ≡ replay store (requests lines)
 
--- A run that opens a disk which holds a map goes on from the plain store that the map stands for.
+-- A run that opens a disk which is a log goes on from the plain store that its map stands for, with
+-- as much of the room used.
 abbrev pub TheNextRunGoesOn : Type 0
 TheNextRunGoesOn =
-    (image : List ℕ) (u : Table) (log : Durable) (store : Store) → HoldsMap Base 257 image u → StandsFor u store → OpensAs Base 257 log image → StandsFor log.table store
+    (image : List ℕ) (was log : Durable) (store : Store) → HoldsLog Base 257 image was → StandsFor was.table store → OpensAs Base 257 log image
+    → StandsFor log.table store × (log.used ≡ was.used)

@@ -1,6 +1,7 @@
 pub mod Tasks
 pub mod Answers
 pub mod Bases
+pub mod Costs
 pub mod Laws
 pub mod Lines
 pub mod Main

@@ -2,13 +2,14 @@
 use Rattle.std.specs.Prelude.{◌≡◌, ◌⊎◌, ◌<◌, ℕ, ◌+◌, List, [], ◌∷◌, ◌++◌, map}
 use Rattle.std.specs.List.{concat}
 use Rattle.store_face.specs.Tables.{Table}
-use Rattle.store_face.specs.Views.{StoreView, Now, Holds}
+use Rattle.store_face.specs.Views.{StoreView, Durable, Now, Holds}
 use Rattle.log_store.specs.Views.{LogView, store_of}
 use Rattle.obj_ops.specs.Stores.{Store}
 use Rattle.tier_tool.specs.declared.task.Numbered.{Numbered}
-use Rattle.tier_tool.specs.Bases.{StandsFor, IsUnreadable, ActsOn, name_of}
+use Rattle.tier_tool.specs.Bases.{BeforeOrAfter, StandsFor, IsUnreadable, ActsOn, name_of}
+use Rattle.tier_tool.specs.Costs.{cost}
 use Rattle.tier_tool.specs.Plain.{Plain, Answered, answered, after, begun}
-use Rattle.tier_tool.specs.Rooms.{HasRoom, cost}
+use Rattle.tier_tool.specs.Rooms.{HasRoom}
 use Rattle.tier_tool.specs.Texts.{line_text, no_space_text, bad_record_text, disk_fault_text}
 
 -- what stands behind some lines: the plain store, and how much of the pool's room is used, in bytes
@@ -24,7 +25,8 @@ standing store used = record { plain = begun store; used = used }
 abbrev pub behind_line : Standing → Numbered → Standing
 behind_line p n = record { plain = after p.plain n.line; used = p.used + cost p.plain.store n.line }
 
--- What is said of a line: its answer; or that the pool has no room for its act; or that the name's value spells no state.
+-- What is said of a line: its answer; or that the pool has no room for its act; or that the name's
+-- value spells no state.
 pub data Said : Type 0 where
   Given : Answered → Said
   NoRoom : (number used more limit : ℕ) → Said
@@ -40,9 +42,10 @@ said_text (BadRecord number name) = bad_record_text number name
 abbrev pub texts_of : List Said → List ℕ
 texts_of said = concat (map said_text said)
 
--- What is said of one line, from a map with such unreadable names, in so much room, over what stands before the line; and what stands
--- behind it. It has the plain store's answer, at its place, where its record fits into the room, and uses that; or it would act, and its
--- record does not fit, and it changes nothing; or its name is unreadable.
+-- What is said of one line, from a map with such unreadable names, in so much room, over what
+-- stands before the line; and what stands behind it. It has the plain store's answer, at its place,
+-- where its record fits into the room, and uses that; or it would act, and its record does not fit,
+-- and it changes nothing; or its name is unreadable.
 abbrev pub LineSays : Table → (room : ℕ) → Standing → Numbered → Said → Standing → Type 0
 LineSays t room p n (Given a) q =
     (¬ IsUnreadable t (name_of n.line)) × (a ≡ answered p.plain n) × HasRoom room p.used p.plain.store n.line × (q ≡ behind_line p n)
@@ -51,13 +54,15 @@ LineSays t room p n (NoRoom number used more limit) q =
     × (more ≡ cost p.plain.store n.line) × (limit ≡ room) × (room < used + more) × (q ≡ p)
 LineSays t room p n (BadRecord number name) q = IsUnreadable t name × (number ≡ n.number) × (name ≡ name_of n.line) × (q ≡ p)
 
--- What is said of the first lines, one after another; the lines that are left; and what stands behind those that were said.
+-- What is said of the first lines, one after another; the lines that are left; and what stands
+-- behind those that were said.
 abbrev pub Says : Table → (room : ℕ) → Standing → List Numbered → List Said → List Numbered → Standing → Type 0
 Says t room p lines [] left q = (left ≡ lines) × (q ≡ p)
 Says t room p [] (s ∷ ss) left q = ⊥
 Says t room p (n ∷ ns) (s ∷ ss) left q = (m : Standing) × LineSays t room p n s m × Says t room m ns ss left q
 
--- How a run of lines ends: all lines were said; or the sink failed at the last that was; or it stopped in a line that was not said.
+-- How a run of lines ends: all lines were said; or the sink failed at the last that was; or it
+-- stopped in a line that was not said.
 pub data Ending : Type 0 where
   Whole : Ending
   Unheard : Ending
@@ -117,20 +122,22 @@ EndsAs disk_rose sink_rose said left Whole put status = EndsWhole said left put 
 EndsAs disk_rose sink_rose said left Unheard put status = EndsUnheard sink_rose said put status
 EndsAs disk_rose sink_rose said left (Stopped n) put status = EndsStopped disk_rose sink_rose said left n put status
 
--- A map that is left stands for the store behind the lines that were said; or, where a line was not, for the store with its act too.
-abbrev pub IsLeft : Standing → Ending → Table → Type 0
-IsLeft q Whole u = StandsFor u q.plain.store
-IsLeft q Unheard u = StandsFor u q.plain.store
-IsLeft q (Stopped n) u = StandsFor u q.plain.store ⊎ StandsFor u (after q.plain n.line).store
+-- What is left stands for the store behind the lines that were said, with as much used; or, where a
+-- line was not, for the store with its act too, whose cost is used then.
+abbrev pub IsLeft : Standing → Ending → Durable → Type 0
+IsLeft q Whole d = StandsFor d.table q.plain.store × (d.used ≡ q.used)
+IsLeft q Unheard d = StandsFor d.table q.plain.store × (d.used ≡ q.used)
+IsLeft q (Stopped n) d = BeforeOrAfter q.plain n.line q.used d
 
 -- lines were said in so much room from a map that stands for a store, with so much of the room used
 pub record SaysFrom (t : Table) (room : ℕ) (from : Standing) (lines : List Numbered) (said : List Said) (left : List Numbered) (ending : Ending) (new : StoreView) : Type 0 where
   pub now : Standing
   pub says : Says t room from lines said left now
-  pub before : Now new (λ s. IsLeft now ending s.before.table)
-  pub after_ : Now new (λ s. IsLeft now ending s.after.table)
+  pub before : Now new (λ s. IsLeft now ending s.before)
+  pub after_ : Now new (λ s. IsLeft now ending s.after)
 
--- Lines were carried out on a pool's store, and what is said of each was put before the next: what was put, and the status.
+-- Lines were carried out on a pool's store, and what is said of each was put before the next: what
+-- was put, and the status.
 pub record TellsLines (lines : List Numbered) (old new : LogView) (disk_rose sink_rose : Type 0) (put : List ℕ) (status : ℕ) : Type 0 where
   pub said : List Said
   pub left : List Numbered

@@ -1,4 +1,5 @@
--- What a run does, from the words of its command line and the bytes of its script to the bytes put, the status, and the base pool's disk.
+-- What a run does, from the words of its command line and the bytes of its script to the bytes put,
+-- the status, and the base pool's disk.
 use Rattle.std.specs.Prelude.{◌≡◌, ◌≢◌, ◌<◌, ◌≤◌, ◌^◌, ◌⊎◌, ℕ, List, [], ◌∷◌, length, map, take, Option, None, IfSome, codes}
 use Rattle.std.specs.List.{concat}
 use Rattle.obj_model.specs.declared.change.Pool.TheVariants.{Base}
@@ -12,7 +13,7 @@ use Rattle.tier_outside.specs.DiskMoments.{Now, SomeImage}
 use Rattle.tier_outside.specs.Streams.{Loses, Gains}
 use Rattle.store_face.specs.Tables.{Table}
 use Rattle.log_image.specs.Fronts.{IsBad, IsOf}
-use Rattle.log_image.specs.Images.{HoldsMap}
+use Rattle.log_image.specs.Images.{HoldsLog}
 use Rattle.store_face.specs.Views.{Durable}
 use Rattle.log_store.specs.Opens.{OpeningStops, OpensAs}
 use Rattle.tier_tool.specs.declared.pair.DiskPair.{DiskPair}
@@ -112,7 +113,8 @@ pub record SourceFailed (source_rose : Type 0) (base_old base_new : Option (List
   pub base_same : base_new ≡ base_old
   pub silent : put ≡ []
 
--- there was no memory before it was known what is to be put: status 9, and nothing is put; the base may have been formatted
+-- there was no memory before it was known what is to be put: status 9, and nothing is put; the base
+-- may have been formatted
 pub record LacksMemory (base_old base_new : Option (List DiskMoment)) (put : List ℕ) (status : ℕ) : Type 0 where
   pub ended : status ≡ 9
   pub silent : put ≡ []
@@ -126,7 +128,8 @@ pub record TellsFault (script : List ℕ) (sink_rose : Type 0) (base_old base_ne
   pub base_same : base_new ≡ base_old
   pub told : MakesAndTells (fault_text line cause ∷ []) 4 sink_rose put status
 
--- the script is accepted, and the verb of a line is not built yet: the first such line is told, with status 4, and no disk is touched
+-- the script is accepted, and the verb of a line is not built yet: the first such line is told,
+-- with status 4, and no disk is touched
 pub record TellsUnbuilt (script : List ℕ) (sink_rose : Type 0) (base_old base_new : Option (List DiskMoment)) (put : List ℕ) (status : ℕ) : Type 0 where
   pub lines : List lang.Numbered
   pub is_script : IsScript script lines
@@ -142,8 +145,8 @@ pub record BaseFailed (disk_rose : Type 0) (base_old base_new : Option (List Dis
   pub silent : put ≡ []
   pub base_kept : BackLeaves base_old base_new (OpeningStops Base 257)
 
--- what a stop left of the base's disk is refused, which is told with status 5: it is no log of a base at some offset, or of another
--- pair. The disk stays as it was.
+-- what a stop left of the base's disk is refused, which is told with status 5: it is no log of a
+-- base at some offset, or of another pair. The disk stays as it was.
 pub record RefusesImage (sink_rose : Type 0) (base_old base_new : Option (List DiskMoment)) (put : List ℕ) (status : ℕ) : Type 0 where
   pub why : List ℕ
   pub cause : ((at : ℕ) × (why ≡ bad_image_text at) × SomeImage base_old (λ image. IsBad Base 257 image at))
@@ -151,16 +154,19 @@ pub record RefusesImage (sink_rose : Type 0) (base_old base_new : Option (List D
   pub base_kept : BackLeaves base_old base_new IsImage
   pub told : MakesAndTells (why ∷ []) 5 sink_rose put status
 
--- Lines were said in so much room from a map that stands for a store, with so much of the room used: each is answered as the plain store
--- answers it, or refused where its record does not fit. Whatever a stop leaves of the disk that is handed back holds a map that stands for
--- the plain store behind the lines that were said; or, where a line was begun that was not said, for that store with its act too. So an
--- act that was told survives any stop.
+-- Lines were said in so much room from a map that stands for a store, with so much of the room
+-- used: each is answered as the plain store answers it, or refused where its record does not fit.
+-- Whatever a stop leaves of the disk that is handed back is a log whose map stands for the plain
+-- store behind the lines that were said, with as much of the room used; or, where a line was begun
+-- that was not said, for that store with its act too, and with the record of it used. So an act
+-- that was told survives any stop.
 pub record SaidFrom (t : Table) (room : ℕ) (from : Standing) (lines : List Numbered) (said : List Said) (left : List Numbered) (ending : Ending) (base_new : Option (List DiskMoment)) : Type 0 where
   pub now : Standing
   pub says : Says t room from lines said left now
-  pub kept : Now base_new (λ e. EachImage e (λ image. (u : Table) × HoldsMap Base 257 image u × IsLeft now ending u))
+  pub kept : Now base_new (λ e. EachImage e (λ image. (log : Durable) × HoldsLog Base 257 image log × IsLeft now ending log))
 
--- Lines are carried out on the base from the log that an image of its disk was opened as. The base of the first pair has the number 257.
+-- Lines are carried out on the base from the log that an image of its disk was opened as. The base
+-- of the first pair has the number 257.
 pub record CarriesLines (lines : List Numbered) (room : ℕ) (disk_rose sink_rose : Type 0) (base_old base_new : Option (List DiskMoment)) (put : List ℕ) (status : ℕ) : Type 0 where
   pub said : List Said
   pub left : List Numbered
@@ -175,7 +181,8 @@ pub record AnswersLines (script : List ℕ) (room : ℕ) (disk_rose sink_rose : 
   pub is_script : IsScript script (map as_line lines)
   pub carried : CarriesLines lines room disk_rose sink_rose base_old base_new put status
 
--- the source was read to its end, or past the most bytes that a script may have, and what it gave was carried out
+-- the source was read to its end, or past the most bytes that a script may have, and what it gave
+-- was carried out
 pub record CarriesOut (left : Option (List ℕ)) (room : ℕ) (disk_rose sink_rose : Type 0) (base_old base_new : Option (List DiskMoment)) (script put : List ℕ) (status : ℕ) : Type 0 where
   pub read : IsReadWhole left script
   pub told : TellsFault script sink_rose base_old base_new put status

@@ -5,15 +5,18 @@ use Rattle.obj_model.specs.States.{IsState, unknown}
 use Rattle.obj_model.specs.declared.state.NameState.{NameState}
 use Rattle.rec_codec.specs.Spelling.{SpellsState}
 use Rattle.store_face.specs.Tables.{Table}
-use Rattle.store_face.specs.Views.{StoreView, CrashMaps, Now, Holds}
+use Rattle.store_face.specs.Rooms.{record_size}
+use Rattle.store_face.specs.Views.{StoreView, CrashMaps, Durable, Now, Holds}
 use Rattle.store_face.specs.Calls.{Stays, Fails}
 use Rattle.store_face.specs.declared.fault.StoreFault.{StoreFault}
 use Rattle.store_face.specs.declared.fault.StoreFault.TheVariants as store
-use Rattle.tier_tool.specs.Bases.{state_key, IsUnreadable}
+use Rattle.tier_tool.specs.Bases.{IsUnreadable}
+use Rattle.tier_tool.specs.Costs.{change_of, state_key}
 use Rattle.tier_tool.specs.declared.base.LineFault.{LineFault}
 use Rattle.tier_tool.specs.declared.base.LineFault.TheVariants.{NoSpace, BadRecord, Disk, NoMemory}
 
--- what a failed call of the store means for a line; that the image is bad is never answered by a live store, and that it is worn never by a log
+-- what a failed call of the store means for a line; that the image is bad is never answered by a
+-- live store, and that it is worn never by a log
 abbrev pub line_fault : StoreFault → LineFault
 line_fault store.Disk = Disk
 line_fault (store.BadImage at) = BadRecord
@@ -52,15 +55,22 @@ pub record IsWith (name : List ℕ) (s : NameState) (t u : Table) : Type 0 where
   pub spells : SpellsState bytes s
   pub is : u ≡ fin.insert t (state_key name) bytes
 
--- a stop leaves one of two maps: this one, or the one with this state for a name
-pub record IsTorn (name : List ℕ) (s : NameState) (t : Table) (sides : CrashMaps) : Type 0 where
-  pub before : (sides.before.table ≡ t) ⊎ IsWith name s t sides.before.table
-  pub after : (sides.after.table ≡ t) ⊎ IsWith name s t sides.after.table
+-- a stop leaves this map with so much used; or the one with this state for a name, and its record
+-- used too
+abbrev pub WithOrWithout : List ℕ → NameState → Table → (used : ℕ) → Durable → Type 0
+WithOrWithout name s t used d =
+    ((d.table ≡ t) × (d.used ≡ used)) ⊎ (IsWith name s t d.table × (d.used ≡ used + record_size (change_of name s)))
 
--- the state of a name was put into the map; or the disk failed, and a stop leaves the map before or after; or nothing changed
+-- a stop leaves one of these two
+pub record IsTorn (name : List ℕ) (s : NameState) (t : Table) (used : ℕ) (sides : CrashMaps) : Type 0 where
+  pub before : WithOrWithout name s t used sides.before
+  pub after : WithOrWithout name s t used sides.after
+
+-- the state of a name was put into the map; or the disk failed, and a stop leaves the map before or
+-- after; or nothing changed
 abbrev pub WasPut : List ℕ → NameState → StoreView → StoreView → Result (Unit {0}) LineFault → Type 0
 WasPut name s old new (Ok done) = Holds old (λ t. Holds new (IsWith name s t)) × (new.live ≡ true) × (old.faults ≤ new.faults)
 WasPut name s old new (Err (NoSpace used need limit)) = (limit < used + need) × Stays old new
 WasPut name s old new (Err BadRecord) = ⊥
-WasPut name s old new (Err Disk) = Holds old (λ t. Now new (IsTorn name s t)) × Fails old new
+WasPut name s old new (Err Disk) = Holds old (λ t. Now new (IsTorn name s t old.used)) × Fails old new
 WasPut name s old new (Err NoMemory) = Stays old new

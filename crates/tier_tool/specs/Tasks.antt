@@ -1,5 +1,5 @@
 -- What lines of a script ask of the base, and the first line that asks for something else.
-use Rattle.std.specs.Prelude.{◌≡◌, ◌≤◌, ◌^◌, ℕ, Bool, true, false, List, [], ◌∷◌, ◌++◌, map, Option, Some, None}
+use Rattle.std.specs.Prelude.{◌≡◌, ◌≤◌, ◌^◌, ℕ, Bool, true, false, List, ◌∷◌, ◌++◌, map, Option, Some, None}
 use Rattle.std.specs.List.{list_any}
 use Rattle.obj_model.specs.SubOps.{is_write}
 use Rattle.script_lang.specs.Spelling.{IsAddressed}

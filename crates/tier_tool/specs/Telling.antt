@@ -21,8 +21,8 @@ use Rattle.tier_tool.specs.declared.base.LineFault.TheVariants as line
 use Rattle.tier_tool.specs.declared.saying.Unsaid.{Unsaid}
 use Rattle.tier_tool.specs.declared.saying.Unsaid.TheVariants as unsaid
 
--- This is said of a line over what stands before it, and the map stands for the plain store behind it, with so many acts; what is used
--- of the room is what the store counts.
+-- This is said of a line over what stands before it, and the map stands for the plain store behind
+-- it, with so many acts; what is used of the room is what the store counts.
 pub record SaysLine (t : Table) (room : ℕ) (p : Standing) (n : Numbered) (s : Said) (acts : ℕ) (new : LogView) : Type 0 where
   pub behind : Standing
   pub says : LineSays t room p n s behind
@@ -30,8 +30,8 @@ pub record SaysLine (t : Table) (room : ℕ) (p : Standing) (n : Numbered) (s : 
   pub taken : behind.used ≡ new.used
   pub stands : Holds (store_of new) (λ u. StandsFor u behind.plain.store)
 
--- This is said of a line, whichever plain store with so many acts the map stands for, in the store's room. The same names are unreadable
--- behind it.
+-- This is said of a line, whichever plain store with so many acts the map stands for, in the
+-- store's room. The same names are unreadable behind it.
 pub record IsSaid (n : Numbered) (s : Said) (before acts : ℕ) (old new : LogView) : Type 0 where
   pub live : new.live ≡ true
   pub unreadable : Holds (store_of old) (λ t. Holds (store_of new) (SameUnreadable t))
@@ -39,7 +39,7 @@ pub record IsSaid (n : Numbered) (s : Said) (before acts : ℕ) (old new : LogVi
 
 -- nothing is said of a line: a stop leaves what was there before it, or that with its act
 abbrev pub LeavesInDoubt : Numbered → StoreView → StoreView → Type 0
-LeavesInDoubt n old new = Holds old (λ t. Now new (InDoubt n.line t))
+LeavesInDoubt n old new = Holds old (λ t. Now new (InDoubt n.line t old.used))
 
 -- a text was written, or memory lacked for it
 abbrev pub IsInWords : Result (Unit {0}) NoMemory → Result (Unit {0}) Unsaid → Type 0
@@ -93,7 +93,8 @@ TellsLine n before acts old new disk_rose sink_rose put (Ok done) = Words n befo
 TellsLine n before acts old new disk_rose sink_rose put (Err status) =
     IsUnheard n before acts old new sink_rose put status ⊎ StopsIn n (store_of old) (store_of new) disk_rose sink_rose put status
 
--- what was said so far, in so much room, from a map that stands for a store, over the lines that are no longer left
+-- what was said so far, in so much room, from a map that stands for a store, over the lines that
+-- are no longer left
 pub record SaysSoFar (t : Table) (room : ℕ) (from : Standing) (lines left : List Numbered) (said : List Said) (acts : ℕ) (now : LogView) : Type 0 where
   pub behind : Standing
   pub says : Says t room from lines said left behind
@@ -127,7 +128,8 @@ RunsOn lines room disk_rose sink_rose base_old base_new put status =
     ⊎ RefusesImage sink_rose base_old base_new put status
     ⊎ CarriesLines lines room disk_rose sink_rose base_old base_new put status
 
--- the verbs of these lines are built, and they were carried out; or the first that is not built was told
+-- the verbs of these lines are built, and they were carried out; or the first that is not built was
+-- told
 abbrev pub CarriesTasks : List lang.Numbered → (room : ℕ) → (disk_rose sink_rose : Type 0) → (base_old base_new : Option (List DiskMoment)) → List ℕ → ℕ → Type 0
 CarriesTasks lines room disk_rose sink_rose base_old base_new put status =
     LacksMemory base_old base_new put status

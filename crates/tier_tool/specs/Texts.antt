@@ -102,7 +102,8 @@ answer_text place (Worn limit) = codes "worn " ++ decimal limit
 abbrev pub line_text : Answered → List ℕ
 line_text a = decimal a.number ++ codes " " ++ answer_text a.place a.answer ++ codes "\n"
 
--- what is put for a line whose act has no room in the base pool: how much is used, how much more is needed, and the limit, in bytes
+-- what is put for a line whose act has no room in the base pool: how much is used, how much more is
+-- needed, and the limit, in bytes
 abbrev pub no_space_text : ℕ → ℕ → ℕ → ℕ → List ℕ
 no_space_text number used need limit =
     decimal number ++ codes " nospace base " ++ decimal used ++ codes " " ++ decimal need ++ codes " " ++ decimal limit ++ codes "\n"

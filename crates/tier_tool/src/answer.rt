@@ -11,12 +11,14 @@ use obj_ops::Looked;
 /// What a line is answered.
 #[derive(Debug, Drop)]
 pub enum Answer {
-    /// The write vector was accepted, and the name has this version since; now, or in an earlier line.
+    /// The write vector was accepted, and the name has this version since; now, or in an earlier
+    /// line.
     Done {
         ver: u64,
         kept: bool,
     },
-    /// The sub-operation at this place, counted from 0, was refused, at this version; now, or in an earlier line.
+    /// The sub-operation at this place, counted from 0, was refused, at this version; now, or in an
+    /// earlier line.
     Refused {
         at: u8,
         why: Why,

@@ -1,5 +1,6 @@
-//! The objects of a base pool: each name's state stands in the pool's store under the letter N and the name. The promise: a line is
-//! answered as the plain store answers it for which the pool's map stands, and its act is in the store before it is answered.
+//! The objects of a base pool: each name's state stands in the pool's store under the letter N and
+//! the name. The promise: a line is answered as the plain store answers it for which the pool's map
+//! stands, and its act is in the store before it is answered.
 ghost use Rattle.std.specs.Prelude.{◌≡◌, ℕ, IfOk, None, false, true};
 ghost use Rattle.std.specs.List.{list_any};
 ghost use Rattle.obj_model.specs.Names.{name_fault};
@@ -10,17 +11,18 @@ ghost use Rattle.tier_tool.specs.declared.task.Task.TheVariants as line;
 ghost use Rattle.log_store.specs.Commits.{SameStore};
 ghost use Rattle.log_store.specs.Views.{store_of};
 ghost use Rattle.store_face.specs.Views.{Sound};
-ghost use Rattle.tier_tool.specs.Bases.{GoesOn, LineEnds, state_key};
+ghost use Rattle.tier_tool.specs.Bases.{GoesOn, LineEnds};
+ghost use Rattle.tier_tool.specs.Costs.{state_key};
 ghost use Rattle.tier_tool.specs.Pools.{line_fault, Found, IsKnown, WasPut};
 ghost use Rattle.tier_tool.specs.Rooms.{LineUses, PutUses};
 ghost use Rattle.tier_tool.specs.declared.base.LineFault.TheVariants.{NoMemory};
 
 use crate::answer::Answer;
+use crate::task::Task;
 use log_store::LogStore;
 use obj_model::{Bytes, Change, Name, NameState, NoMemory, Req, Vector};
 use obj_ops::{Acted, act, look};
 use rec_codec::{read_state, write_state};
-use crate::task::Task;
 use std::alloc::Global;
 use store_face::{Store, StoreFault};
 use tier_outside::Disk;
@@ -28,7 +30,8 @@ use tier_outside::Disk;
 /// Why a line was not carried out.
 #[derive(Clone, Copy, Debug, PartialEq, Eq)]
 pub enum LineFault {
-    /// So much of the pool's room is used and so much more is needed, above this limit, in bytes. Nothing changed.
+    /// So much of the pool's room is used and so much more is needed, above this limit, in bytes.
+    /// Nothing changed.
     NoSpace { used: u64, need: u64, limit: u64 },
     /// What the pool has under the name spells no state. Nothing changed.
     BadRecord,
@@ -46,7 +49,8 @@ impl From<NoMemory> for LineFault {
     }
 }
 
-/// Carries a line out on a live store, and tells whether it acted. A kept, stale or worn answer changes nothing and writes nothing.
+/// Carries a line out on a live store, and tells whether it acted. A kept, stale or worn answer
+/// changes nothing and writes nothing.
 #[tactic(auto, using(crate::proofs::Going::log_stood_still))]
 pub fn answer<D: Disk + Drop>(
     alloc: Global,

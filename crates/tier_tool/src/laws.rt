@@ -1,5 +1,5 @@
-//! What follows from the definition of the answers, in plain words. These calls do nothing: their contracts are the
-//! laws.
+//! What follows from the definition of the answers, in plain words. These calls do nothing: their
+//! contracts are the laws.
 ghost use Rattle.tier_tool.specs.Laws.{LaterLinesChangeNothing, RequestsMakeTheStore, TheNextRunGoesOn};
 
 use crate::task::Numbered;
@@ -10,15 +10,16 @@ pub fn later_lines_change_nothing(_before: &[Numbered], _others: &[Numbered])
     ensures { LaterLinesChangeNothing _before.now _others.now }
 {}
 
-/// Lines leave the store that their write requests leave, one after another: readings, and the numbers of lines, have
-/// no part in it.
+/// Lines leave the store that their write requests leave, one after another: readings, and the
+/// numbers of lines, have no part in it.
 #[tactic(auto, using(crate::proofs::Ordered::requests_make))]
 pub fn requests_make_the_store(_lines: &[Numbered])
     ensures { RequestsMakeTheStore _lines.now }
 {}
 
-/// A run that opens a disk which holds a map goes on from the plain store that the map stands for: what was left by a stop, or by the end
-/// of the run before it, is what the lines of the next one are answered from.
+/// A run that opens a disk which is a log goes on from the plain store that its map stands for, with
+/// as much of the room used: what was left by a stop, or by the end of the run before it, is what
+/// the lines of the next one are answered from, and what their records come behind.
 pub fn the_next_run_goes_on()
     ensures { TheNextRunGoesOn }
 {}

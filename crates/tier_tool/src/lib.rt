@@ -1,8 +1,9 @@
-//! The program but for its outside: a script read from a source, carried out on the base pool's store on its disk, and what is said of its
-//! lines put into a sink.
+//! The program but for its outside: a script read from a source, carried out on the base pool's
+//! store on its disk, and what is said of its lines put into a sink.
 //!
-//! `tier_main` is all that the program does. Its contract says the way from the words of the command line and the
-//! bytes of the script to the bytes put, the status, and what a stop leaves of the base's disk.
+//! `tier_main` is all that the program does. Its contract says the way from the words of the
+//! command line and the bytes of the script to the bytes put, the status, and what a stop leaves of
+//! the base's disk.
 #![tactic(auto)]
 
 mod answer;

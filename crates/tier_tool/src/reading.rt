@@ -1,5 +1,5 @@
-//! Reads a source whole. The promise: to its end or past the limit of a script, and a fault only where the source's
-//! count of faults rose.
+//! Reads a source whole. The promise: to its end or past the limit of a script, and a fault only
+//! where the source's count of faults rose.
 ghost use Rattle.std.specs.Prelude.{◌≤◌, MatchResult};
 ghost use Rattle.tier_outside.specs.Causes.{Rose};
 ghost use Rattle.tier_outside.specs.Streams.{Loses};
@@ -21,7 +21,8 @@ pub enum Unread {
 // The bytes that one call of the source may give.
 const PIECE: usize = 4096;
 
-/// All bytes that the source has left. Reading stops early once there are more than a script may have.
+/// All bytes that the source has left. Reading stops early once there are more than a script may
+/// have.
 pub fn read_whole<S: Source>(alloc: Global, source: &mut S) -> Result<Vec<u8>, Unread>
     ensures given { MatchResult result (λ bytes. Loses (S.left source.old) (S.left source.new) bytes.items) (λ _. GaveSome (S.left source.old) (S.left source.new)) }
     ensures whole { MatchResult result (λ bytes. IsReadWhole (S.left source.new) bytes.items) (λ why. Excuses why (Rose (S.faults source.old) (S.faults source.new))) }

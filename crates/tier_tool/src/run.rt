@@ -1,5 +1,5 @@
-//! The top call of the program. Its promise is the whole way from the words of the command line and the bytes of the
-//! script to the bytes put, the status, and what a stop leaves of the base's disk.
+//! The top call of the program. Its promise is the whole way from the words of the command line and
+//! the bytes of the script to the bytes put, the status, and what a stop leaves of the base's disk.
 ghost use Rattle.std.specs.Prelude.{◌≡◌, ◌≤◌, ◌↔◌, IsTrue, All, map, string_bytes};
 ghost use Rattle.script_lang.specs.Spelling.{IsLine};
 ghost use Rattle.tier_tool.specs.Tasks.{IsTask};
@@ -25,19 +25,25 @@ const PAIR: u64 = 257;
 const USAGE: &str =
     "usage: run|check|show|gen [--paths] [--history] [--summary] [--count N] [--start N]\n";
 
-/// Does all that the program does. `words` are those of the command line, without the program's name.
+/// Does all that the program does. `words` are those of the command line, without the program's
+/// name.
 ///
-/// With the one word `run` it reads the whole script, opens the base pool on the base disk of the one pair, carries the lines out one
-/// after another on it, and puts what is said of each, a line of text, in one call of the sink, before the next is carried out. A script
-/// that is refused puts the one line `script LINE CAUSE`, a base disk that is refused one that begins with `image base 0`, and any other
-/// words put the usage line. The cache disk is not used yet.
+/// With the one word `run` it reads the whole script, opens the base pool on the base disk of the
+/// one pair, carries the lines out one after another on it, and puts what is said of each, a line
+/// of text, in one call of the sink, before the next is carried out. A script that is refused puts
+/// the one line `script LINE CAUSE`, and one that is accepted but has a verb that is not built yet
+/// `script LINE unbuilt`; then no disk is touched. A base disk that is refused puts one line that
+/// begins with `image base 0`, and any other words put the usage line. The cache disk is not used
+/// yet.
 ///
-/// The room of the base is the bytes that its log may use, 64 to 2^40. Each act uses the room by its record and nothing else does; a line
-/// is refused for space exactly where its record does not fit, and then changes nothing. The disks are handed back in every case, one that
-/// is refused as it was. An act that was told survives any stop of the base's disk.
+/// The room of the base is the bytes that its log may use, 64 to 2^40. Each act uses the room by
+/// its record and nothing else does; a line is refused for space exactly where its record does not
+/// fit, and then changes nothing. The disks are handed back in every case, one that is refused as
+/// it was. An act that was told survives any stop of the base's disk, and the next run finds as
+/// much of the room used as the acts that are left took.
 ///
-/// It ends with the status that `Ended` explains, and returns on every input. It reads at most 268,439,552 bytes of
-/// the script, and keeps the script and the base's map in memory.
+/// It ends with the status that `Ended` explains, and returns on every input. It reads at most
+/// 268,439,552 bytes of the script, and keeps the script and the base's map in memory.
 pub fn tier_main<S: Source, K: Sink, D: Disk + Send + Drop>(
     alloc: Global,
     words: &[String],

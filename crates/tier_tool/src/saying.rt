@@ -1,4 +1,5 @@
-//! What is said of a line. The promise: the line is carried out on the pool's store, and the text that is made says what was done.
+//! What is said of a line. The promise: the line is carried out on the pool's store, and the text
+//! that is made says what was done.
 ghost use Rattle.std.specs.Prelude.{◌≡◌, ◌≤◌, ◌<◌, ◌+◌, ◌-◌, ◌^◌, ◌++◌, true, OnOk, decimal, codes};
 ghost use Rattle.log_store.specs.Commits.{SameStore};
 ghost use Rattle.log_store.specs.Views.{store_of};
@@ -11,10 +12,10 @@ ghost use Rattle.tier_tool.specs.Texts.{line_text, no_space_text, bad_record_tex
 
 use crate::answer::Answer;
 use crate::base::{LineFault, answer};
+use crate::task::{Numbered, Task};
 use crate::text::Text;
 use log_store::LogStore;
 use obj_model::{Name, NoMemory};
-use crate::task::{Numbered, Task};
 use std::alloc::Global;
 use store_face::Store;
 use tier_outside::Disk;

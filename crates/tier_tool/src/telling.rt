@@ -1,5 +1,5 @@
-//! Puts the texts of a run into the sink, one text a call. The promise: what was put is what is said of the lines, in their order, and a
-//! line's text is put before the next line is carried out.
+//! Puts the texts of a run into the sink, one text a call. The promise: what was put is what is
+//! said of the lines, in their order, and a line's text is put before the next line is carried out.
 ghost use Rattle.std.specs.Prelude.{◌≡◌, ◌≤◌, ◌<◌, ◌+◌, ◌-◌, ◌^◌, ◌++◌, [], ◌∷◌, true, OnOk, All};
 ghost use Rattle.log_store.specs.Commits.{SameStore};
 ghost use Rattle.log_store.specs.Views.{store_of};
@@ -70,7 +70,8 @@ pub fn tell_unopened<K: Sink>(alloc: Global, fault: AttachFault, out: &mut K) ->
     }
 }
 
-/// Carries all lines out on a live store, and puts what is said of each before the next is carried out.
+/// Carries all lines out on a live store, and puts what is said of each before the next is carried
+/// out.
 pub fn tell_lines<D: Disk + Drop, K: Sink>(
     alloc: Global,
     lines: &[Numbered],

@@ -1,5 +1,5 @@
-//! Texts that are made piece by piece in one buffer. The promise: each piece comes behind the others, spelled as the
-//! definitions say.
+//! Texts that are made piece by piece in one buffer. The promise: each piece comes behind the
+//! others, spelled as the definitions say.
 ghost use Rattle.std.specs.Prelude.{◌≡◌, ◌++◌, [], OnOk, decimal};
 ghost use Rattle.script_lang.specs.Spelling.{bytes_word};
 
@@ -8,7 +8,8 @@ use obj_model::NoMemory;
 use std::alloc::Global;
 use std::marker::Model;
 
-/// A text, seen as the list of its bytes. After a call that lacked memory it is of no use until it is cleared.
+/// A text, seen as the list of its bytes. After a call that lacked memory it is of no use until it
+/// is cleared.
 #[derive(Drop)]
 pub struct Text {
     bytes: Vec<u8>,

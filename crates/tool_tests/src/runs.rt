@@ -104,7 +104,8 @@ fn a_sink_that_fails_at_its_second_put(rt: HostRuntime) -> Result<(), Fail> {
     Ok(())
 }
 
-// Wherever the sink fails, the texts before were put, and what they told is kept; so is the act of the line that was not heard.
+// Wherever the sink fails, the texts before were put, and what they told is kept; so is the act of
+// the line that was not heard.
 #[test]
 fn failing_sinks(rt: HostRuntime) -> Result<(), Fail> {
     let alloc = rt.alloc();
@@ -178,7 +179,8 @@ fn what_stands_on_the_base(rt: HostRuntime) -> Result<(), Fail> {
     Ok(())
 }
 
-// An empty log uses 23 bytes. The state of `a` is spelled in 49, its put in 59, and its record with the gate behind it takes 64.
+// An empty log uses 23 bytes. The state of `a` is spelled in 49, its put in 59, and its record with
+// the gate behind it takes 64.
 #[test]
 fn a_full_base(rt: HostRuntime) -> Result<(), Fail> {
     let alloc = rt.alloc();
@@ -198,7 +200,8 @@ fn a_full_base(rt: HostRuntime) -> Result<(), Fail> {
     Ok(())
 }
 
-// Under the key of `a` stands the byte h, which spells no state. It stays as it is, and other names are answered.
+// Under the key of `a` stands the byte h, which spells no state. It stays as it is, and other names
+// are answered.
 #[test]
 fn an_unreadable_name(rt: HostRuntime) -> Result<(), Fail> {
     let alloc = rt.alloc();

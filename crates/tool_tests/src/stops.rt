@@ -9,8 +9,9 @@ const ROOM: u64 = 4096;
 
 const ONE: &[u8] = b"op 1 1 a writefull 616263\n";
 
-// How a run and the next one on its disk ended, as a letter. The line was told, and is kept (T); the run ended before the line, which is
-// done anew (s); it ended in the line, which is done anew (a) or kept (k). No run may give a question mark.
+// How a run and the next one on its disk ended, as a letter. The line was told, and is kept (T);
+// the run ended before the line, which is done anew (s); it ended in the line, which is done anew
+// (a) or kept (k). No run may give a question mark.
 fn ends(first: (u8, &[u8]), next: (u8, &[u8])) -> u8 {
     let kept = next == (0, b"1 done v1 @0 kept\n".as_slice());
     let anew = next == (0, b"1 done v1 @1\n".as_slice());
@@ -40,9 +41,10 @@ fn run_twice(
     Ok(ends((status, sink.bytes()), (next, heard.bytes())))
 }
 
-// An empty disk is opened in eight calls: it is restarted and looked at, and three writes, each with a sync, format it. A restart ends a
-// stop that begins at it. The act takes four: its record is written and settled (9, 10), and then the gate before it (11, 12). What comes
-// of a stop, and of a fault, at the calls 1 to 12:
+// An empty disk is opened in eight calls: it is restarted and looked at, and three writes, each
+// with a sync, format it. A restart ends a stop that begins at it. The act takes four: its record
+// is written and settled (9, 10), and then the gate before it (11, 12). What comes of a stop, and
+// of a fault, at the calls 1 to 12:
 const TABLE: [(Pick, &[u8], &[u8]); 5] = [
     (Pick::Old, b"Tsssssssaaaa", b"ssssssssaaaa"),
     (Pick::New, b"Tsssssssaaak", b"ssssssssaaak"),

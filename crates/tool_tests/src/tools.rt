@@ -21,7 +21,8 @@ pub fn memory(
     Ok(MemDisk::new(alloc, bytes, vec![in alloc; fails]?, stop_at, pick).expect(rt, "made"))
 }
 
-// How a run on a base disk ended: its status, the sink, which fails at the call of this number, and the disk, which is handed back.
+// How a run on a base disk ended: its status, the sink, which fails at the call of this number, and
+// the disk, which is handed back.
 pub fn run_on(
     rt: &impl Abort,
     alloc: Global,
