@@ -28,6 +28,6 @@ pub use entries::{Act, First, Logged};
 pub use history::History;
 pub use laws::{
     a_call_keeps_it, an_act_keeps_answers_true, an_act_keeps_it_legal, an_act_keeps_its_shape,
-    an_answer_goes_on_fitting, an_answer_keeps_it, each_act_acted, ids_act_once,
+    an_answer_goes_on_fitting, an_answer_keeps_it, answers_fit, each_act_acted, ids_act_once,
     it_begins_anywhere, opening_is_underneath, places_stay, what_was_seen_is_there,
 };
