@@ -42,11 +42,11 @@ abbrev act_of : ℕ → Req → Reply → Act
 act_of call req given = record { call = call; line = 3; req = req; reply = given }
 
 -- parts of an act that is there
-call_in : Option Act → ℕ
+abbrev call_in : Option Act → ℕ
 call_in None = 0
 call_in (Some a) = a.call
 
-reply_in : Reply → Option Act → Reply
+abbrev reply_in : Reply → Option Act → Reply
 reply_in given None = given
 reply_in given (Some a) = a.reply
 
@@ -69,10 +69,10 @@ module _ (start : Store) (req : Req) (why : Why) where
   }
 
   done_at_a_later_place : Fits start (act_of 7 req (reply.Done 1) ∷ []) (Write req) (hit 2 (answer.Done 1 false)) → ⊥
-  done_at_a_later_place h = let no : 0 ≡ 7 = ap call_in h.beside in absurd (cc)
+  done_at_a_later_place h = absurd (omega (arith, ap call_in h.beside))
 
   done_of_another_call : Fits start (act_of 8 req (reply.Done 1) ∷ []) (Write req) (hit 1 (answer.Done 1 false)) → ⊥
-  done_of_another_call h = let no : 8 ≡ 7 = ap call_in h.beside in absurd (cc)
+  done_of_another_call h = absurd (omega (arith, ap call_in h.beside))
 
   done_with_another_version : Fits start (act_of 7 req (reply.Done 1) ∷ []) (Write req) (hit 1 (answer.Done 2 false)) → ⊥
   done_with_another_version h = let no : reply.Done 1 ≡ reply.Done 2 = ap (reply_in (reply.Done 2)) h.beside in absurd (cc)
