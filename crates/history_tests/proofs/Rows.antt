@@ -18,6 +18,7 @@ use Rattle.obj_ops.specs.Stores.{Store, state_of}
 use Rattle.obj_ops.specs.declared.reading.Looked.TheVariants as looked
 use Rattle.obj_ops.specs.declared.request.Acted.TheVariants as acted
 use Rattle.tier_chron.specs.Fits.{Fits}
+use Rattle.tier_chron.specs.Places.{behind_one}
 use Rattle.tier_chron.specs.declared.answer.Answer.{Answer}
 use Rattle.tier_chron.specs.declared.answer.Answer.TheVariants as answer
 use Rattle.tier_chron.specs.declared.answer.AgentDid.TheVariants as did
@@ -95,6 +96,9 @@ module _ (start : Store) (req : Req) (why : Why) where
   kept_of_nothing : (t : NameState) (given : Reply) → act (state_of start req.name) req ≡ acted.Fresh t given → Fits start [] (Write req) (hit 0 (answer.Done 1 true)) → ⊥
   kept_of_nothing t given fresh h = let no = h.told.again in absurd (cc)
 
+  kept_beside_another_reply : Fits start (act_of 7 req (reply.Done 2) ∷ []) (Write req) (hit 0 (answer.Done 1 true)) → ⊥
+  kept_beside_another_reply h = let no : reply.Done 2 ≡ reply.Done 1 = h.told.same.0 refl in absurd (cc)
+
   refused_kept_fits : act (state_of start req.name) req ≡ acted.Again (reply.Refused 0 why 4) → Fits start [] (Write req) (hit 0 (answer.Refused 0 why 4 true))
   refused_kept_fits again = record { kind = refl; numbers = tt; way = refl; single = tt; own = tt; beside = tt; told = record { again = again; same = tt } }
 
@@ -118,6 +122,9 @@ module _ (start : Store) (name : List ℕ) (ops : List SubOp) (outs : List Out) 
 
   refused_reading_fits : look (state_of start name) ops ≡ looked.Refused 0 why 3 → Fits start [] (Read 1 name ops) (hit 0 (answer.Refused 0 why 3 false))
   refused_reading_fits look = record { kind = refl; numbers = tt; way = refl; single = tt; own = tt; beside = tt; told = look }
+
+  refused_reading_of_another_version : look (state_of start name) ops ≡ looked.Refused 0 why 3 → Fits start [] (Read 1 name ops) (hit 0 (answer.Refused 0 why 4 false)) → ⊥
+  refused_reading_of_another_version look h = let no = h.told in absurd (cc)
 
   kept_reading : Fits start [] (Read 1 name ops) (hit 0 (answer.Refused 0 why 3 true)) → ⊥
   kept_reading h = let no = h.kind in absurd (cc)
@@ -205,6 +212,32 @@ module _ (start : Store) (name : List ℕ) (pool : Pool) (outs : List Out) where
   clean_start : Fits start [] Start (at 0 answer.Clean) → ⊥
   clean_start h = let no = h.kind in absurd (cc)
 
+-- ---- behind an act of another call, that of call 8
+
+module _ (start : Store) (r req : Req) (given : Reply) (name : List ℕ) (ops : List SubOp) (outs : List Out) where
+  values_behind_an_act_fit : look (state_of (behind_one start r) name) ops ≡ looked.Values 2 outs → Fits start (act_of 8 r given ∷ []) (Read 1 name ops) (hit 1 (answer.Values 2 outs))
+  values_behind_an_act_fit look = record { kind = refl; numbers = tt; way = refl; single = ((λ e. tt), tt); own = ((λ e. absurd (cc)), tt); beside = tt; told = look }
+
+  values_of_before : look (state_of (behind_one start r) name) ops ≡ looked.Values 2 outs → Fits start (act_of 8 r given ∷ []) (Read 1 name ops) (hit 1 (answer.Values 1 outs)) → ⊥
+  values_of_before look h = let no = h.told in absurd (cc)
+
+  values_before_an_act_fit : look (state_of start name) ops ≡ looked.Values 1 outs → Fits start (act_of 8 r given ∷ []) (Read 1 name ops) (hit 0 (answer.Values 1 outs))
+  values_before_an_act_fit look = record { kind = refl; numbers = tt; way = refl; single = ((λ e. tt), tt); own = ((λ e. absurd (cc)), tt); beside = tt; told = look }
+
+  stale_behind_an_act_fits : act (state_of (behind_one start r) req.name) req ≡ acted.Stale 5 → Fits start (act_of 8 r given ∷ []) (Write req) (hit 1 (answer.Stale 5))
+  stale_behind_an_act_fits stale = record {
+    kind = refl;
+    numbers = tt;
+    way = refl;
+    single = ((λ e. tt), tt);
+    own = ((λ e. absurd (cc)), tt);
+    beside = tt;
+    told = record { stale = stale; none = ((λ e. absurd (cc)), tt) };
+  }
+
+  kept_behind_an_act_only : act (state_of (behind_one start r) req.name) req ≡ acted.Stale 5 → Fits start (act_of 8 r given ∷ []) (Write req) (hit 1 (answer.Done 1 true)) → ⊥
+  kept_behind_an_act_only stale h = let no = h.told.again in absurd (cc)
+
 -- ---- numbers, ways and kinds
 
 module _ (start : Store) (acts : List Act) (req : Req) (name : List ℕ) (ops : List SubOp) (pool : Pool) (why : Why) where
@@ -279,3 +312,14 @@ never_full start acts (Evict name) l entries bytes e h = let no = h.kind in absu
 never_full start acts Drain l entries bytes e h = let no = h.kind in absurd (cc)
 never_full start acts Agent l entries bytes e h = let no = h.kind in absurd (cc)
 never_full start acts Start l entries bytes e h = let no = h.kind in absurd (cc)
+
+never_without_memory : (start : Store) (acts : List Act) (asked : Asked) (l : Logged) → l.answer ≡ answer.NoMemory → Fits start acts asked l → ⊥
+never_without_memory start acts (Write req) l e h = let no = h.kind in absurd (cc)
+never_without_memory start acts (Read client name ops) l e h = let no = h.kind in absurd (cc)
+never_without_memory start acts (Flush name blocking true) l e h = let no = h.kind in absurd (cc)
+never_without_memory start acts (Flush name blocking false) l e h = let no = h.kind in absurd (cc)
+never_without_memory start acts (Finish name) l e h = let no = h.kind in absurd (cc)
+never_without_memory start acts (Evict name) l e h = let no = h.kind in absurd (cc)
+never_without_memory start acts Drain l e h = let no = h.kind in absurd (cc)
+never_without_memory start acts Agent l e h = let no = h.kind in absurd (cc)
+never_without_memory start acts Start l e h = let no = h.kind in absurd (cc)

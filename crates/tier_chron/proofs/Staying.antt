@@ -119,6 +119,7 @@ answered_push acts a l (Some c) ne h = record {
 pub act_keeps_shape : (a : Act) → ActKeepsShape a
 act_keeps_shape a calls log f h may is = record {
   ordered = ordered_push f a log is h.ordered;
+  in_turn = h.in_turn;
   begun = all_imply (IsBegun log.acts) (IsBegun (log.acts ++ a ∷ [])) (begun_push log.acts a) calls h.begun;
   single = single_push log.acts a h.single may.first;
   asked = all_push (λ b. IsAskedBy b (call_of calls b.call)) log.acts a h.asked may.asked;
@@ -161,6 +162,7 @@ pub answer_keeps : (l : Logged) → AnswerKeeps l
 answer_keeps l start calls log h may told = record {
   shaped = record {
     ordered = ordered_answer calls log l h.shaped.ordered may;
+    in_turn = h.shaped.in_turn;
     begun = h.shaped.begun;
     single = h.shaped.single;
     asked = h.shaped.asked;

@@ -1,5 +1,6 @@
 -- The shape of a history: what its entries show of one another and of the calls, whatever the
--- stores were.
+-- stores were. Over stores that tell nothing no more is said: an opening can have any state there,
+-- and a request that is sent twice can act and yet be told that it is late.
 use Rattle.std.specs.Prelude.{◌≡◌, ◌≢◌, ◌≤◌, ◌<◌, ◌+◌, ◌^◌, ℕ, Bool, true, false, not, ◌&&◌, ◌||◌, List, [], ◌∷◌, take, length, Option, Some, None}
 use Rattle.std.specs.List.{AllByRecursion}
 use Rattle.obj_model.specs.declared.reply.Reply.{Reply}
@@ -51,6 +52,12 @@ IsAskedBy a (Some c) = (c.asked ≡ Write a.req) × (c.line ≡ Some a.line)
 pub record IsBegun (acts : List Act) (c : Call) : Type 0 where
   pub begun : c.begin ≤ length acts
   pub later : HasNoAct c.number (take c.begin acts)
+
+-- calls come one after another: under numbers of their own, and none begins before an earlier one
+abbrev pub AreInTurn : List Call → Type 0
+AreInTurn [] = Unit {0}
+AreInTurn (c ∷ calls) =
+    AllByRecursion (λ d. (c.begin ≤ d.begin) × (d.number ≢ c.number)) calls × AreInTurn calls
 
 -- ---- which answers a call may have
 
@@ -253,6 +260,7 @@ IsAnswered acts l (Some c) = IsAnswerTo acts l c
 -- the shape of a history beside the calls of its group
 pub record IsShaped (calls : List Call) (log : Log) : Type 0 where
   pub ordered : IsOrdered log
+  pub in_turn : AreInTurn calls
   pub begun : AllByRecursion (IsBegun log.acts) calls
   pub single : AreSingle log.acts
   pub asked : AllByRecursion (λ a. IsAskedBy a (call_of calls a.call)) log.acts
