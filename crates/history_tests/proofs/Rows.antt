@@ -271,6 +271,12 @@ module _ (start : Store) (acts : List Act) (req : Req) (name : List ℕ) (ops : 
   full_on_a_way : Fits start acts (Write req) (on path.Promote 1 (answer.Full 1500000)) → ⊥
   full_on_a_way h = let no = h.way in absurd (cc)
 
+  blocked_by_reads_on_a_hit : Fits start acts (Write req) (on path.Hit 1 (answer.Blocked kind.Read 1)) → ⊥
+  blocked_by_reads_on_a_hit h = let no = h.way in absurd (cc)
+
+  blocked_on_a_way : Fits start acts (Write req) (on path.Promote 1 (answer.Blocked kind.Promote 1)) → ⊥
+  blocked_on_a_way h = let no = h.way in absurd (cc)
+
   flushed_on_a_way : Fits start acts (Flush name true false) (on path.Hit 1 (answer.Flushed 1)) → ⊥
   flushed_on_a_way h = let no = h.way in absurd (cc)
 

@@ -14,7 +14,7 @@ use Rattle.tier_chron.specs.Laws.{ActKeepsShape, ActKeepsTruth, AnswerKeeps, Ans
 use Rattle.tier_chron.specs.Legal.{AreInOrder, IsOrdered, IsPlaced}
 use Rattle.tier_chron.specs.Logs.{Log, answered_log}
 use Rattle.tier_chron.specs.Places.{act_at, state_at}
-use Rattle.tier_chron.specs.Shapes.{AreSingle, DoesAsked, HasNoAct, HasOneAct, IsAnswered, IsAskedBy, IsBegun, Stands, StandsBeside, is_fault}
+use Rattle.tier_chron.specs.Shapes.{AreSingle, HasNoAct, HasOneAct, IsAnswered, IsAskedBy, IsBegun, Stands, StandsBeside, is_fault}
 use Rattle.tier_chron.specs.declared.answer.Answer.{Answer}
 use Rattle.tier_chron.specs.declared.answer.Answer.TheVariants as answer
 use Rattle.tier_chron.specs.declared.asked.Asked.{Asked}

@@ -202,21 +202,22 @@ is_served (answer.Values ver outs) = true
 is_served (answer.Stale kept) = true
 is_served other = false
 
--- the answer of a request that was turned away before it had a way; reads at the base turn away
--- after that
-abbrev pub is_turned_away : Answer → Bool
-is_turned_away (answer.Blocked kind.Read opid) = false
-is_turned_away (answer.Blocked other opid) = true
-is_turned_away (answer.Full micro) = true
-is_turned_away other = false
+-- an answer that can come behind the choice of this way: reads at the base turn away what would be
+-- promoted or written there, and all else that turns a request away comes before
+abbrev pub goes_with : Answer → Path → Bool
+goes_with (answer.Blocked kind.Read opid) path.Promote = true
+goes_with (answer.Blocked kind.Read opid) path.ProxyWrite = true
+goes_with (answer.Blocked kind opid) way = false
+goes_with (answer.Full micro) way = false
+goes_with other way = true
 
 -- Whether an answer may tell of this way. Only requests of clients have one: each that was served,
 -- and none that was turned away before; a fault can come before and behind the choice.
 abbrev pub may_go : Asked → Answer → Option Path → Bool
 may_go (Write req) x None = not (is_served x)
-may_go (Write req) x (Some way) = is_way_of_write way && not (is_turned_away x)
+may_go (Write req) x (Some way) = is_way_of_write way && goes_with x way
 may_go (Read client name vector) x None = not (is_served x)
-may_go (Read client name vector) x (Some way) = is_way_of_read way && not (is_turned_away x)
+may_go (Read client name vector) x (Some way) = is_way_of_read way && goes_with x way
 may_go other x None = true
 may_go other x (Some way) = false
 
