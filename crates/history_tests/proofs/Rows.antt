@@ -8,7 +8,6 @@ use Rattle.obj_model.specs.declared.req.Req.{Req}
 use Rattle.obj_model.specs.declared.state.NameState.{NameState}
 use Rattle.obj_model.specs.declared.sub_op.SubOp.{SubOp}
 use Rattle.obj_model.specs.declared.change.Pool.{Pool}
-use Rattle.obj_model.specs.declared.tier.Kind.{Kind}
 use Rattle.obj_model.specs.declared.tier.Kind.TheVariants as kind
 use Rattle.obj_model.specs.declared.tier.Mode.TheVariants as mode
 use Rattle.obj_model.specs.declared.tier.Path.{Path}

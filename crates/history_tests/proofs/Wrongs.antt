@@ -1,5 +1,5 @@
 -- Wrong histories, each with the clause that excludes it.
-use Rattle.std.proofs.Common.{◌≡◌, ℕ, ◌≤◌, true, false, List, [], ◌∷◌, Option, Some, None, refl, sym, ap, subst, ◌∙◌, arith}
+use Rattle.std.proofs.Common.{◌≡◌, ℕ, List, [], ◌∷◌, Option, Some, None, refl, ap, subst, ◌∙◌, arith}
 use Rattle.obj_model.specs.declared.reply.Reply.{Reply}
 use Rattle.obj_model.specs.declared.reply.Reply.TheVariants as reply
 use Rattle.obj_model.specs.declared.req.Req.{Req}
@@ -10,9 +10,7 @@ use Rattle.obj_ops.specs.Stores.{Store, state_of}
 use Rattle.obj_ops.specs.declared.request.Acted.TheVariants as acted
 use Rattle.tier_chron.specs.Calls.{Call}
 use Rattle.tier_chron.specs.Legal.{AreFresh, AreInOrder, AreOnce, AreOpened, IsLegal, IsPlaced}
-use Rattle.tier_chron.specs.Logs.{Log}
 use Rattle.tier_chron.specs.Shapes.{AreInTurn, AreSingle, IsAnswerTo, IsAnswered, IsAskedBy, IsBegun, NumbersAgree}
-use Rattle.tier_chron.specs.declared.answer.Answer.{Answer}
 use Rattle.tier_chron.specs.declared.answer.Answer.TheVariants as answer
 use Rattle.tier_chron.specs.declared.asked.Asked.{Asked}
 use Rattle.tier_chron.specs.declared.asked.Asked.TheVariants.{Write, Drain, Evict}
