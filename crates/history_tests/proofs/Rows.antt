@@ -1,5 +1,5 @@
 -- Each row of what fits, by a small history that fits and one that does not.
-use Rattle.std.proofs.Common.{◌≡◌, ℕ, true, false, List, [], ◌∷◌, Option, Some, None, refl, sym, ◌∙◌}
+use Rattle.std.proofs.Common.{◌≡◌, ℕ, ◌^◌, true, false, List, [], ◌∷◌, Option, Some, None, refl, ap, arith}
 use Rattle.obj_model.specs.declared.out.Out.{Out}
 use Rattle.obj_model.specs.declared.reply.Reply.{Reply}
 use Rattle.obj_model.specs.declared.reply.Reply.TheVariants as reply
@@ -8,12 +8,16 @@ use Rattle.obj_model.specs.declared.req.Req.{Req}
 use Rattle.obj_model.specs.declared.state.NameState.{NameState}
 use Rattle.obj_model.specs.declared.sub_op.SubOp.{SubOp}
 use Rattle.obj_model.specs.declared.change.Pool.{Pool}
-use Rattle.obj_model.specs.declared.tier.Kind.{Kind}
+use Rattle.obj_model.specs.declared.tier.Kind.TheVariants as kind
+use Rattle.obj_model.specs.declared.tier.Mode.TheVariants as mode
+use Rattle.obj_model.specs.declared.tier.Path.{Path}
+use Rattle.obj_model.specs.declared.tier.Path.TheVariants as path
 use Rattle.obj_ops.specs.Acts.{act, look}
 use Rattle.obj_ops.specs.Stores.{Store, state_of}
 use Rattle.obj_ops.specs.declared.reading.Looked.TheVariants as looked
 use Rattle.obj_ops.specs.declared.request.Acted.TheVariants as acted
 use Rattle.tier_chron.specs.Fits.{Fits}
+use Rattle.tier_chron.specs.Places.{behind_one}
 use Rattle.tier_chron.specs.declared.answer.Answer.{Answer}
 use Rattle.tier_chron.specs.declared.answer.Answer.TheVariants as answer
 use Rattle.tier_chron.specs.declared.answer.AgentDid.TheVariants as did
@@ -22,79 +26,109 @@ use Rattle.tier_chron.specs.declared.asked.Asked.TheVariants.{Write, Read, Flush
 use Rattle.tier_chron.specs.declared.entries.Act.{Act}
 use Rattle.tier_chron.specs.declared.entries.Logged.{Logged}
 
--- an answer to call 7 of line 3, at this place
+-- an answer to call 7 of line 3, at this place, on no way or on the way of a hit
 abbrev at : ℕ → Answer → Logged
 at place x = record { call = 7; line = 3; begin = 0; place = place; end = 3; path = None; answer = x }
+
+abbrev hit : ℕ → Answer → Logged
+hit place x = record { call = 7; line = 3; begin = 0; place = place; end = 3; path = Some path.Hit; answer = x }
+
+-- the same on another way
+abbrev on : Path → ℕ → Answer → Logged
+on way place x = record { call = 7; line = 3; begin = 0; place = place; end = 3; path = Some way; answer = x }
 
 -- an act of a call of line 3
 abbrev act_of : ℕ → Req → Reply → Act
 act_of call req given = record { call = call; line = 3; req = req; reply = given }
 
+-- parts of an act that is there
+abbrev call_in : Option Act → ℕ
+call_in None = 0
+call_in (Some a) = a.call
+
+abbrev reply_in : Reply → Option Act → Reply
+reply_in given None = given
+reply_in given (Some a) = a.reply
+
 -- ---- a reply of its own act
 
 module _ (start : Store) (req : Req) (why : Why) where
-  done_fits : Fits start (act_of 7 req (reply.Done 1) ∷ []) (Write req) (at 1 (answer.Done 1 false))
-  done_fits = record { kind = refl; beside = refl; told = tt }
+  done_fits : Fits start (act_of 7 req (reply.Done 1) ∷ []) (Write req) (hit 1 (answer.Done 1 false))
+  done_fits = record { kind = refl; numbers = tt; way = refl; single = ((λ e. tt), tt); own = ((λ e. refl), tt); beside = refl; told = tt }
 
   -- also where other acts came before and behind
-  done_between_fits : Fits start (act_of 8 req (reply.Done 4) ∷ act_of 7 req (reply.Done 5) ∷ act_of 9 req (reply.Done 6) ∷ []) (Write req) (at 2 (answer.Done 5 false))
-  done_between_fits = record { kind = refl; beside = refl; told = tt }
+  done_between_fits : Fits start (act_of 8 req (reply.Done 4) ∷ act_of 7 req (reply.Done 5) ∷ act_of 9 req (reply.Done 6) ∷ []) (Write req) (hit 2 (answer.Done 5 false))
+  done_between_fits = record {
+    kind = refl;
+    numbers = tt;
+    way = refl;
+    single = ((λ e. absurd (cc)), ((λ e. ((λ f. absurd (cc)), tt)), ((λ e. tt), tt)));
+    own = ((λ e. absurd (cc)), ((λ e. refl), ((λ e. absurd (cc)), tt)));
+    beside = refl;
+    told = tt;
+  }
 
-  done_at_a_later_place : Fits start (act_of 7 req (reply.Done 1) ∷ []) (Write req) (at 2 (answer.Done 1 false)) → ⊥
-  done_at_a_later_place h = let no = h.beside in absurd (cc)
+  done_at_a_later_place : Fits start (act_of 7 req (reply.Done 1) ∷ []) (Write req) (hit 2 (answer.Done 1 false)) → ⊥
+  done_at_a_later_place h = absurd (omega (arith, ap call_in h.beside))
 
-  done_of_another_call : Fits start (act_of 8 req (reply.Done 1) ∷ []) (Write req) (at 1 (answer.Done 1 false)) → ⊥
-  done_of_another_call h = let no = h.beside in absurd (cc)
+  done_of_another_call : Fits start (act_of 8 req (reply.Done 1) ∷ []) (Write req) (hit 1 (answer.Done 1 false)) → ⊥
+  done_of_another_call h = absurd (omega (arith, ap call_in h.beside))
 
-  done_with_another_version : Fits start (act_of 7 req (reply.Done 1) ∷ []) (Write req) (at 1 (answer.Done 2 false)) → ⊥
-  done_with_another_version h = let no = h.beside in absurd (cc)
+  done_with_another_version : Fits start (act_of 7 req (reply.Done 1) ∷ []) (Write req) (hit 1 (answer.Done 2 false)) → ⊥
+  done_with_another_version h = let no : reply.Done 1 ≡ reply.Done 2 = ap (reply_in (reply.Done 2)) h.beside in absurd (cc)
 
-  refused_fits : Fits start (act_of 7 req (reply.Refused 2 why 0) ∷ []) (Write req) (at 1 (answer.Refused 2 why 0 false))
-  refused_fits = record { kind = refl; beside = refl; told = tt }
+  refused_fits : Fits start (act_of 7 req (reply.Refused 2 why 0) ∷ []) (Write req) (hit 1 (answer.Refused 2 why 0 false))
+  refused_fits = record { kind = refl; numbers = tt; way = refl; single = ((λ e. tt), tt); own = ((λ e. refl), tt); beside = refl; told = tt }
 
-  done_for_refused : Fits start (act_of 7 req (reply.Refused 2 why 0) ∷ []) (Write req) (at 1 (answer.Done 0 false)) → ⊥
-  done_for_refused h = let no = h.beside in absurd (cc)
+  done_for_refused : Fits start (act_of 7 req (reply.Refused 2 why 0) ∷ []) (Write req) (hit 1 (answer.Done 0 false)) → ⊥
+  done_for_refused h = let no : reply.Refused 2 why 0 ≡ reply.Done 0 = ap (reply_in (reply.Done 0)) h.beside in absurd (cc)
 
 -- ---- a reply that was kept
 
 module _ (start : Store) (req : Req) (why : Why) where
-  kept_fits : act (state_of start req.name) req ≡ acted.Again (reply.Done 1) → Fits start [] (Write req) (at 0 (answer.Done 1 true))
-  kept_fits again = record { kind = refl; beside = tt; told = record { again = again; same = tt } }
+  kept_fits : act (state_of start req.name) req ≡ acted.Again (reply.Done 1) → Fits start [] (Write req) (hit 0 (answer.Done 1 true))
+  kept_fits again = record { kind = refl; numbers = tt; way = refl; single = tt; own = tt; beside = tt; told = record { again = again; same = tt } }
 
-  kept_with_another_version : act (state_of start req.name) req ≡ acted.Again (reply.Done 1) → Fits start [] (Write req) (at 0 (answer.Done 2 true)) → ⊥
+  kept_with_another_version : act (state_of start req.name) req ≡ acted.Again (reply.Done 1) → Fits start [] (Write req) (hit 0 (answer.Done 2 true)) → ⊥
   kept_with_another_version again h = let no = h.told.again in absurd (cc)
 
-  kept_of_nothing : (t : NameState) (given : Reply) → act (state_of start req.name) req ≡ acted.Fresh t given → Fits start [] (Write req) (at 0 (answer.Done 1 true)) → ⊥
+  kept_of_nothing : (t : NameState) (given : Reply) → act (state_of start req.name) req ≡ acted.Fresh t given → Fits start [] (Write req) (hit 0 (answer.Done 1 true)) → ⊥
   kept_of_nothing t given fresh h = let no = h.told.again in absurd (cc)
 
-  refused_kept_fits : act (state_of start req.name) req ≡ acted.Again (reply.Refused 0 why 4) → Fits start [] (Write req) (at 0 (answer.Refused 0 why 4 true))
-  refused_kept_fits again = record { kind = refl; beside = tt; told = record { again = again; same = tt } }
+  kept_beside_another_reply : Fits start (act_of 7 req (reply.Done 2) ∷ []) (Write req) (hit 0 (answer.Done 1 true)) → ⊥
+  kept_beside_another_reply h = let no : reply.Done 2 ≡ reply.Done 1 = h.told.same.0 refl in absurd (cc)
 
-  stale_fits : act (state_of start req.name) req ≡ acted.Stale 5 → Fits start [] (Write req) (at 0 (answer.Stale 5))
-  stale_fits stale = record { kind = refl; beside = tt; told = record { stale = stale; none = tt } }
+  refused_kept_fits : act (state_of start req.name) req ≡ acted.Again (reply.Refused 0 why 4) → Fits start [] (Write req) (hit 0 (answer.Refused 0 why 4 true))
+  refused_kept_fits again = record { kind = refl; numbers = tt; way = refl; single = tt; own = tt; beside = tt; told = record { again = again; same = tt } }
 
-  stale_by_another_number : act (state_of start req.name) req ≡ acted.Stale 5 → Fits start [] (Write req) (at 0 (answer.Stale 6)) → ⊥
+  stale_fits : act (state_of start req.name) req ≡ acted.Stale 5 → Fits start [] (Write req) (hit 0 (answer.Stale 5))
+  stale_fits stale = record { kind = refl; numbers = tt; way = refl; single = tt; own = tt; beside = tt; told = record { stale = stale; none = tt } }
+
+  stale_by_another_number : act (state_of start req.name) req ≡ acted.Stale 5 → Fits start [] (Write req) (hit 0 (answer.Stale 6)) → ⊥
   stale_by_another_number stale h = let no = h.told.stale in absurd (cc)
 
-  stale_that_acted : Fits start (act_of 7 req (reply.Done 1) ∷ []) (Write req) (at 1 (answer.Stale 5)) → ⊥
+  stale_that_acted : Fits start (act_of 7 req (reply.Done 1) ∷ []) (Write req) (hit 1 (answer.Stale 5)) → ⊥
   stale_that_acted h = h.told.none.0 refl
 
 -- ---- a reading
 
 module _ (start : Store) (name : List ℕ) (ops : List SubOp) (outs : List Out) (why : Why) where
-  values_fit : look (state_of start name) ops ≡ looked.Values 1 outs → Fits start [] (Read 1 name ops) (at 0 (answer.Values 1 outs))
-  values_fit look = record { kind = refl; beside = tt; told = look }
+  values_fit : look (state_of start name) ops ≡ looked.Values 1 outs → Fits start [] (Read 1 name ops) (hit 0 (answer.Values 1 outs))
+  values_fit look = record { kind = refl; numbers = tt; way = refl; single = tt; own = tt; beside = tt; told = look }
 
-  values_of_another_version : look (state_of start name) ops ≡ looked.Values 1 outs → Fits start [] (Read 1 name ops) (at 0 (answer.Values 2 outs)) → ⊥
+  values_of_another_version : look (state_of start name) ops ≡ looked.Values 1 outs → Fits start [] (Read 1 name ops) (hit 0 (answer.Values 2 outs)) → ⊥
   values_of_another_version look h = let no = h.told in absurd (cc)
 
-  refused_reading_fits : look (state_of start name) ops ≡ looked.Refused 0 why 3 → Fits start [] (Read 1 name ops) (at 0 (answer.Refused 0 why 3 false))
-  refused_reading_fits look = record { kind = refl; beside = tt; told = look }
+  refused_reading_fits : look (state_of start name) ops ≡ looked.Refused 0 why 3 → Fits start [] (Read 1 name ops) (hit 0 (answer.Refused 0 why 3 false))
+  refused_reading_fits look = record { kind = refl; numbers = tt; way = refl; single = tt; own = tt; beside = tt; told = look }
 
-  kept_reading : Fits start [] (Read 1 name ops) (at 0 (answer.Refused 0 why 3 true)) → ⊥
+  refused_reading_of_another_version : look (state_of start name) ops ≡ looked.Refused 0 why 3 → Fits start [] (Read 1 name ops) (hit 0 (answer.Refused 0 why 4 false)) → ⊥
+  refused_reading_of_another_version look h = let no = h.told in absurd (cc)
+
+  kept_reading : Fits start [] (Read 1 name ops) (hit 0 (answer.Refused 0 why 3 true)) → ⊥
   kept_reading h = let no = h.kind in absurd (cc)
 
-  done_reading : Fits start [] (Read 1 name ops) (at 0 (answer.Done 3 false)) → ⊥
+  done_reading : Fits start [] (Read 1 name ops) (hit 0 (answer.Done 3 false)) → ⊥
   done_reading h = let no = h.kind in absurd (cc)
 
   full_reading : Fits start [] (Read 1 name ops) (at 0 (answer.Full 2000000)) → ⊥
@@ -102,17 +136,25 @@ module _ (start : Store) (name : List ℕ) (ops : List SubOp) (outs : List Out) 
 
 -- ---- faults, and calls that were turned away
 
-module _ (start : Store) (req : Req) (pool : Pool) (kind : Kind) where
+module _ (start : Store) (req : Req) (pool : Pool) where
   fault_fits : Fits start [] (Write req) (at 0 (answer.DiskFault pool))
-  fault_fits = record { kind = refl; beside = tt; told = tt }
+  fault_fits = record { kind = refl; numbers = tt; way = refl; single = tt; own = tt; beside = tt; told = tt }
 
   fault_with_its_act_fits : Fits start (act_of 7 req (reply.Done 1) ∷ []) (Write req) (at 0 (answer.Restarted 1 2))
-  fault_with_its_act_fits = record { kind = refl; beside = tt; told = tt }
+  fault_with_its_act_fits = record { kind = refl; numbers = omega (arith); way = refl; single = ((λ e. tt), tt); own = ((λ e. refl), tt); beside = tt; told = tt }
 
-  blocked_fits : Fits start (act_of 8 req (reply.Done 1) ∷ []) (Write req) (at 0 (answer.Blocked kind 4))
-  blocked_fits = record { kind = refl; beside = (λ e. absurd (cc), tt); told = tt }
+  blocked_fits : Fits start (act_of 8 req (reply.Done 1) ∷ []) (Write req) (at 0 (answer.Blocked kind.Flush 4))
+  blocked_fits = record {
+    kind = refl;
+    numbers = tt;
+    way = refl;
+    single = ((λ e. tt), tt);
+    own = ((λ e. absurd (cc)), tt);
+    beside = ((λ e. absurd (cc)), tt);
+    told = tt;
+  }
 
-  blocked_that_acted : Fits start (act_of 7 req (reply.Done 1) ∷ []) (Write req) (at 0 (answer.Blocked kind 4)) → ⊥
+  blocked_that_acted : Fits start (act_of 7 req (reply.Done 1) ∷ []) (Write req) (at 0 (answer.Blocked kind.Flush 4)) → ⊥
   blocked_that_acted h = h.beside.0 refl
 
   full_that_acted : Fits start (act_of 7 req (reply.Done 1) ∷ []) (Write req) (at 0 (answer.Full 2000000)) → ⊥
@@ -122,52 +164,147 @@ module _ (start : Store) (req : Req) (pool : Pool) (kind : Kind) where
 
 module _ (start : Store) (name : List ℕ) (pool : Pool) (outs : List Out) where
   flushed_fits : Fits start [] (Flush name true false) (at 0 (answer.Flushed 2))
-  flushed_fits = record { kind = refl; beside = tt; told = tt }
+  flushed_fits = record { kind = refl; numbers = tt; way = refl; single = tt; own = tt; beside = tt; told = tt }
 
-  done_flush : Fits start [] (Flush name true false) (at 0 (answer.Done 2 false)) → ⊥
+  done_flush : Fits start [] (Flush name true false) (hit 0 (answer.Done 2 false)) → ⊥
   done_flush h = let no = h.kind in absurd (cc)
 
-  values_of_a_flush : Fits start [] (Flush name false false) (at 0 (answer.Values 2 outs)) → ⊥
+  values_of_a_flush : Fits start [] (Flush name false false) (hit 0 (answer.Values 2 outs)) → ⊥
   values_of_a_flush h = let no = h.kind in absurd (cc)
 
-  stale_flush : Fits start [] (Flush name false true) (at 0 (answer.Stale 2)) → ⊥
+  stale_flush : Fits start [] (Flush name false true) (hit 0 (answer.Stale 2)) → ⊥
   stale_flush h = let no = h.kind in absurd (cc)
 
   begun_fits : Fits start [] (Flush name true true) (at 0 (answer.Begun 2))
-  begun_fits = record { kind = refl; beside = tt; told = tt }
+  begun_fits = record { kind = refl; numbers = tt; way = refl; single = tt; own = tt; beside = tt; told = tt }
 
   flushed_begin : Fits start [] (Flush name true true) (at 0 (answer.Flushed 2)) → ⊥
   flushed_begin h = let no = h.kind in absurd (cc)
 
   finish_fits : Fits start [] (Finish name) (at 0 answer.NoBegun)
-  finish_fits = record { kind = refl; beside = tt; told = tt }
+  finish_fits = record { kind = refl; numbers = tt; way = refl; single = tt; own = tt; beside = tt; told = tt }
 
   absent_finish : Fits start [] (Finish name) (at 0 answer.Absent) → ⊥
   absent_finish h = let no = h.kind in absurd (cc)
 
   evicted_fits : Fits start [] (Evict name) (at 0 (answer.Evicted 2))
-  evicted_fits = record { kind = refl; beside = tt; told = tt }
+  evicted_fits = record { kind = refl; numbers = tt; way = refl; single = tt; own = tt; beside = tt; told = tt }
 
   flushed_evict : Fits start [] (Evict name) (at 0 (answer.Flushed 2)) → ⊥
   flushed_evict h = let no = h.kind in absurd (cc)
 
   drained_fits : Fits start [] Drain (at 0 answer.Drained)
-  drained_fits = record { kind = refl; beside = tt; told = tt }
+  drained_fits = record { kind = refl; numbers = tt; way = refl; single = tt; own = tt; beside = tt; told = tt }
 
   clean_drain : Fits start [] Drain (at 0 answer.Clean) → ⊥
   clean_drain h = let no = h.kind in absurd (cc)
 
   turn_fits : Fits start [] Agent (at 0 (answer.Agent did.Nothing))
-  turn_fits = record { kind = refl; beside = tt; told = tt }
+  turn_fits = record { kind = refl; numbers = tt; way = refl; single = tt; own = tt; beside = tt; told = tt }
 
   evicted_turn : Fits start [] Agent (at 0 (answer.Evicted 2)) → ⊥
   evicted_turn h = let no = h.kind in absurd (cc)
 
   faulting_start_fits : Fits start [] Start (at 0 (answer.DiskFault pool))
-  faulting_start_fits = record { kind = refl; beside = tt; told = tt }
+  faulting_start_fits = record { kind = refl; numbers = tt; way = refl; single = tt; own = tt; beside = tt; told = tt }
 
   clean_start : Fits start [] Start (at 0 answer.Clean) → ⊥
   clean_start h = let no = h.kind in absurd (cc)
+
+-- ---- behind an act of another call, that of call 8
+
+module _ (start : Store) (r req : Req) (given : Reply) (name : List ℕ) (ops : List SubOp) (outs : List Out) where
+  values_behind_an_act_fit : look (state_of (behind_one start r) name) ops ≡ looked.Values 2 outs → Fits start (act_of 8 r given ∷ []) (Read 1 name ops) (hit 1 (answer.Values 2 outs))
+  values_behind_an_act_fit look = record { kind = refl; numbers = tt; way = refl; single = ((λ e. tt), tt); own = ((λ e. absurd (cc)), tt); beside = tt; told = look }
+
+  values_of_before : look (state_of (behind_one start r) name) ops ≡ looked.Values 2 outs → Fits start (act_of 8 r given ∷ []) (Read 1 name ops) (hit 1 (answer.Values 1 outs)) → ⊥
+  values_of_before look h = let no = h.told in absurd (cc)
+
+  values_before_an_act_fit : look (state_of start name) ops ≡ looked.Values 1 outs → Fits start (act_of 8 r given ∷ []) (Read 1 name ops) (hit 0 (answer.Values 1 outs))
+  values_before_an_act_fit look = record { kind = refl; numbers = tt; way = refl; single = ((λ e. tt), tt); own = ((λ e. absurd (cc)), tt); beside = tt; told = look }
+
+  stale_behind_an_act_fits : act (state_of (behind_one start r) req.name) req ≡ acted.Stale 5 → Fits start (act_of 8 r given ∷ []) (Write req) (hit 1 (answer.Stale 5))
+  stale_behind_an_act_fits stale = record {
+    kind = refl;
+    numbers = tt;
+    way = refl;
+    single = ((λ e. tt), tt);
+    own = ((λ e. absurd (cc)), tt);
+    beside = tt;
+    told = record { stale = stale; none = ((λ e. absurd (cc)), tt) };
+  }
+
+  kept_behind_an_act_only : act (state_of (behind_one start r) req.name) req ≡ acted.Stale 5 → Fits start (act_of 8 r given ∷ []) (Write req) (hit 1 (answer.Done 1 true)) → ⊥
+  kept_behind_an_act_only stale h = let no = h.told.again in absurd (cc)
+
+-- ---- numbers, ways and kinds
+
+module _ (start : Store) (acts : List Act) (req : Req) (name : List ℕ) (ops : List SubOp) (pool : Pool) (why : Why) where
+  worn_at_another_limit : Fits start acts (Write req) (at 0 (answer.Worn 5)) → ⊥
+  worn_at_another_limit h = let no : 5 ≡ 2 ^ 62 = h.numbers in absurd (cc)
+
+  full_below_the_target : Fits start acts (Write req) (at 0 (answer.Full 1000000)) → ⊥
+  full_below_the_target h = absurd (omega (arith, h.numbers))
+
+  restarted_in_one_epoch : Fits start acts (Write req) (at 0 (answer.Restarted 2 2)) → ⊥
+  restarted_in_one_epoch h = absurd (omega (arith, h.numbers))
+
+  no_space_with_room : Fits start acts (Write req) (at 0 (answer.NoSpace pool 40 24 64)) → ⊥
+  no_space_with_room h = absurd (omega (arith, h.numbers))
+
+  again_though_unchanged : Fits start acts (Finish name) (at 0 (answer.Again 3 3)) → ⊥
+  again_though_unchanged h = h.numbers refl
+
+  again_of_a_turn_though_unchanged : Fits start acts Agent (at 0 (answer.Agent (did.Again name 3 3))) → ⊥
+  again_of_a_turn_though_unchanged h = h.numbers refl
+
+  done_on_no_way : Fits start acts (Write req) (at 1 (answer.Done 1 false)) → ⊥
+  done_on_no_way h = let no = h.way in absurd (cc)
+
+  written_by_a_proxied_read : Fits start acts (Write req) (on path.ProxyRead 1 (answer.Done 1 false)) → ⊥
+  written_by_a_proxied_read h = let no = h.way in absurd (cc)
+
+  read_by_a_proxied_write : Fits start acts (Read 1 name ops) (on path.ProxyWrite 1 (answer.Refused 0 why 1 false)) → ⊥
+  read_by_a_proxied_write h = let no = h.way in absurd (cc)
+
+  full_on_a_way : Fits start acts (Write req) (on path.Promote 1 (answer.Full 1500000)) → ⊥
+  full_on_a_way h = let no = h.way in absurd (cc)
+
+  blocked_by_reads_on_a_hit : Fits start acts (Write req) (on path.Hit 1 (answer.Blocked kind.Read 1)) → ⊥
+  blocked_by_reads_on_a_hit h = let no = h.way in absurd (cc)
+
+  blocked_on_a_way : Fits start acts (Write req) (on path.Promote 1 (answer.Blocked kind.Promote 1)) → ⊥
+  blocked_on_a_way h = let no = h.way in absurd (cc)
+
+  flushed_on_a_way : Fits start acts (Flush name true false) (on path.Hit 1 (answer.Flushed 1)) → ⊥
+  flushed_on_a_way h = let no = h.way in absurd (cc)
+
+  reading_blocked_by_a_flush : Fits start acts (Read 1 name ops) (at 0 (answer.Blocked kind.Flush 1)) → ⊥
+  reading_blocked_by_a_flush h = let no = h.kind in absurd (cc)
+
+  flush_blocked_by_reads : Fits start acts (Flush name true false) (at 0 (answer.Blocked kind.Read 1)) → ⊥
+  flush_blocked_by_reads h = let no = h.kind in absurd (cc)
+
+  evict_that_was_restarted : Fits start acts (Evict name) (at 0 (answer.Restarted 1 2)) → ⊥
+  evict_that_was_restarted h = let no = h.kind in absurd (cc)
+
+  begun_flush_without_room : Fits start acts (Flush name true true) (at 0 (answer.NoSpace pool 64 24 64)) → ⊥
+  begun_flush_without_room h = let no = h.kind in absurd (cc)
+
+  restarted_start : Fits start acts Start (at 0 (answer.Restarted 1 2)) → ⊥
+  restarted_start h = let no = h.kind in absurd (cc)
+
+  not_proxy_in_proxy : Fits start acts Drain (at 0 (answer.NotProxy mode.Proxy)) → ⊥
+  not_proxy_in_proxy h = let no = h.kind in absurd (cc)
+
+-- ---- the acts of the call
+
+module _ (start : Store) (req : Req) (pool : Pool) where
+  fault_with_two_acts : Fits start (act_of 7 req (reply.Done 1) ∷ act_of 7 req (reply.Done 2) ∷ []) (Write req) (at 0 (answer.DiskFault pool)) → ⊥
+  fault_with_two_acts h = (h.single.0 refl).0 refl
+
+  drain_with_an_act : Fits start (act_of 7 req (reply.Done 1) ∷ []) Drain (at 0 answer.Drained) → ⊥
+  drain_with_an_act h = let no : Drain ≡ Write req = h.own.0 refl in absurd (cc)
 
 -- no call is ever logged as turned away by a full history, or for want of memory
 never_full : (start : Store) (acts : List Act) (asked : Asked) (l : Logged) (entries bytes : ℕ) → l.answer ≡ answer.HistoryFull entries bytes → Fits start acts asked l → ⊥
@@ -180,3 +317,14 @@ never_full start acts (Evict name) l entries bytes e h = let no = h.kind in absu
 never_full start acts Drain l entries bytes e h = let no = h.kind in absurd (cc)
 never_full start acts Agent l entries bytes e h = let no = h.kind in absurd (cc)
 never_full start acts Start l entries bytes e h = let no = h.kind in absurd (cc)
+
+never_without_memory : (start : Store) (acts : List Act) (asked : Asked) (l : Logged) → l.answer ≡ answer.NoMemory → Fits start acts asked l → ⊥
+never_without_memory start acts (Write req) l e h = let no = h.kind in absurd (cc)
+never_without_memory start acts (Read client name ops) l e h = let no = h.kind in absurd (cc)
+never_without_memory start acts (Flush name blocking true) l e h = let no = h.kind in absurd (cc)
+never_without_memory start acts (Flush name blocking false) l e h = let no = h.kind in absurd (cc)
+never_without_memory start acts (Finish name) l e h = let no = h.kind in absurd (cc)
+never_without_memory start acts (Evict name) l e h = let no = h.kind in absurd (cc)
+never_without_memory start acts Drain l e h = let no = h.kind in absurd (cc)
+never_without_memory start acts Agent l e h = let no = h.kind in absurd (cc)
+never_without_memory start acts Start l e h = let no = h.kind in absurd (cc)

@@ -1,24 +1,28 @@
 -- Wrong histories, each with the clause that excludes it.
-use Rattle.std.proofs.Common.{◌≡◌, ℕ, ◌≤◌, true, false, List, [], ◌∷◌, Option, Some, None, refl, sym, ap, arith}
+use Rattle.std.proofs.Common.{◌≡◌, ℕ, List, [], ◌∷◌, Option, Some, None, refl, ap, subst, ◌∙◌, arith}
 use Rattle.obj_model.specs.declared.reply.Reply.{Reply}
 use Rattle.obj_model.specs.declared.reply.Reply.TheVariants as reply
 use Rattle.obj_model.specs.declared.req.Req.{Req}
 use Rattle.obj_model.specs.declared.state.NameState.{NameState}
+use Rattle.obj_model.specs.declared.tier.Path.{Path}
 use Rattle.obj_ops.specs.Acts.{act}
 use Rattle.obj_ops.specs.Stores.{Store, state_of}
 use Rattle.obj_ops.specs.declared.request.Acted.TheVariants as acted
 use Rattle.tier_chron.specs.Calls.{Call}
 use Rattle.tier_chron.specs.Legal.{AreFresh, AreInOrder, AreOnce, AreOpened, IsLegal, IsPlaced}
-use Rattle.tier_chron.specs.Logs.{Log}
-use Rattle.tier_chron.specs.Shapes.{AreSingle, IsAnswered, IsAskedBy, IsBegun}
-use Rattle.tier_chron.specs.declared.answer.Answer.{Answer}
+use Rattle.tier_chron.specs.Shapes.{AreInTurn, AreSingle, IsAnswerTo, IsAnswered, IsAskedBy, IsBegun, NumbersAgree}
 use Rattle.tier_chron.specs.declared.answer.Answer.TheVariants as answer
 use Rattle.tier_chron.specs.declared.asked.Asked.{Asked}
-use Rattle.tier_chron.specs.declared.asked.Asked.TheVariants.{Write, Drain}
+use Rattle.tier_chron.specs.declared.asked.Asked.TheVariants.{Write, Drain, Evict}
 use Rattle.tier_chron.specs.declared.entries.First.{First}
 use Rattle.tier_chron.specs.declared.entries.Act.{Act}
 use Rattle.tier_chron.specs.declared.entries.Logged.{Logged}
 use Rattle.tier_chron.proofs.Ids.{ids_act_once}
+
+-- the line of a call that has one
+abbrev line_in : Option ℕ → ℕ
+line_in None = 0
+line_in (Some n) = n
 
 -- one request acted twice
 an_act_twice : (start : Store) (a b : Act) (opening : List First) (answers : List Logged) → b.req ≡ a.req → IsLegal start (record { opening = opening; acts = a ∷ b ∷ []; answers = answers }) → ⊥
@@ -75,6 +79,28 @@ an_answer_without_a_line acts l begin asked h = let no = h.line in absurd (cc)
 
 another_begin : (acts : List Act) (l : Logged) (asked : Asked) → l.begin ≡ 4 → IsAnswered acts l (Some (record { number = l.call; line = Some l.line; begin = 3; asked = asked })) → ⊥
 another_begin acts l asked e h = absurd (omega (arith, h.begin, e))
+
+-- an opening with another state than its name had at first
+a_later_opening : (start : Store) (f : First) (a : Act) (t : NameState) → state_of start f.name ≡ t → (f.state ≡ t → ⊥) → IsLegal start (record { opening = f ∷ []; acts = a ∷ []; answers = [] }) → ⊥
+a_later_opening start f a t is other h = other (h.first.0 ∙ is)
+
+-- an act with a line that is not its call's
+an_act_of_another_line : (a : Act) (begin : ℕ) → a.line ≡ 4 → IsAskedBy a (Some (record { number = a.call; line = Some 3; begin = begin; asked = Write a.req })) → ⊥
+an_act_of_another_line a begin e h = absurd (omega (arith, e, ap line_in h.1))
+
+-- two calls under one number, and a call that begins before an earlier one
+two_calls_of_a_number : (c : Call) → AreInTurn (c ∷ c ∷ []) → ⊥
+two_calls_of_a_number c h = h.0.0.1 refl
+
+a_call_before_an_earlier_one : (c d : Call) → c.begin ≡ 5 → d.begin ≡ 4 → AreInTurn (c ∷ d ∷ []) → ⊥
+a_call_before_an_earlier_one c d e f h = absurd (omega (arith, h.0.0.0, e, f))
+
+-- an answer on a way that its call cannot have, or with numbers that do not agree
+an_eviction_on_a_way : (acts : List Act) (l : Logged) (c : Call) (name : List ℕ) (way : Path) → c.asked ≡ Evict name → l.path ≡ Some way → IsAnswerTo acts l c → ⊥
+an_eviction_on_a_way acts l c name way e p h = let no = h.way in absurd (cc)
+
+an_epoch_that_fell : (acts : List Act) (l : Logged) (c : Call) → l.answer ≡ answer.Restarted 3 2 → IsAnswerTo acts l c → ⊥
+an_epoch_that_fell acts l c e h = absurd (omega (arith, subst NumbersAgree e h.numbers))
 
 -- an opening that no act wants, one that is left out, one that stands twice
 an_opening_too_many : (f : First) → AreOpened (f ∷ []) [] → ⊥

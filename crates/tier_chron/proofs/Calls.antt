@@ -1,5 +1,6 @@
 -- Histories with one more call.
-use Rattle.std.proofs.Common.{◌≡◌, ◌≢◌, ℕ, zero, suc, ◌==◌, List, [], ◌∷◌, ◌++◌, take, Option, Some, None, sym, ap, subst, ◌∙◌, arith}
+use Rattle.std.proofs.Common.{◌≡◌, ◌≢◌, ◌≤◌, ℕ, zero, suc, cond, ◌==◌, List, [], ◌∷◌, ◌++◌, take, Option, Some, None, sym, ap, subst, ◌∙◌, arith}
+use Rattle.std.proofs.lemmas.Bool.{eqb-false}
 use Rattle.std.specs.List.{AllByRecursion}
 use Rattle.std.specs.Option.{option_or}
 use Rattle.std.proofs.lemmas.List.Folds.{find-append}
@@ -7,9 +8,9 @@ use Rattle.tier_chron.specs.Calls.{Call, call_of}
 use Rattle.tier_chron.specs.Fits.{TellsCall}
 use Rattle.tier_chron.specs.Laws.{BeginsAnywhere, CallKeeps}
 use Rattle.tier_chron.specs.Logs.{Log}
-use Rattle.tier_chron.specs.Shapes.{HasNoAct, IsAnswered, IsAskedBy, IsBegun}
+use Rattle.tier_chron.specs.Shapes.{AreInTurn, HasNoAct, IsAnswered, IsAskedBy, IsBegun}
 use Rattle.tier_chron.specs.declared.entries.Act.{Act}
-use Rattle.tier_chron.proofs.Lists.{all_imply, all_push}
+use Rattle.tier_chron.proofs.Lists.{all_imply, all_push, either_way}
 
 all_front : {X : Type 0} (P : X → Type 0) (xs : List X) (n : ℕ) → AllByRecursion P xs → AllByRecursion P (take n xs)
 all_front P [] n h = take_none P n
@@ -34,11 +35,30 @@ no_act : (calls : List Call) (number : ℕ) (acts : List Act) → call_of calls 
 no_act calls number acts none h =
     all_imply (λ a. IsAskedBy a (call_of calls a.call)) (λ a. a.call ≢ number) (λ a asked same. subst (IsAskedBy a) (ap (call_of calls) same ∙ none) asked) acts h
 
+-- ---- numbers and begins
+
+unfound : (calls : List Call) (number : ℕ) → call_of calls number ≡ None → AllByRecursion (λ d. d.number ≢ number) calls
+unfound [] number e = tt
+unfound (c ∷ calls) number e =
+    either_way (c.number == number)
+    (λ h. let no : Some c ≡ None = sym (ap (λ b. cond b (Some c) (call_of calls number)) h) ∙ e in absurd (cc))
+    (λ h. (eqb-false c.number number h, unfound calls number (sym (ap (λ b. cond b (Some c) (call_of calls number)) h) ∙ e)))
+
+turn_push : (calls : List Call) (c : Call) → AllByRecursion (λ d. d.begin ≤ c.begin) calls → AllByRecursion (λ d. d.number ≢ c.number) calls
+    → AreInTurn calls → AreInTurn (calls ++ c ∷ [])
+turn_push [] c b n h = (tt, tt)
+turn_push (d ∷ calls) c b n h = (
+  all_push (λ e. (d.begin ≤ e.begin) × (e.number ≢ d.number)) calls c h.0 (b.0, λ same. n.0 (sym same)),
+  turn_push calls c b.1 n.1 h.1,
+)
+
 -- a history goes on when a call begins
 pub call_keeps : (log : Log) → CallKeeps log
 call_keeps log start calls c h new now = record {
   shaped = record {
     ordered = h.shaped.ordered;
+    in_turn = turn_push calls c (all_imply (IsBegun log.acts) (λ d. d.begin ≤ c.begin) (λ d k. omega (arith, k.begun, now)) calls h.shaped.begun)
+        (unfound calls c.number new) h.shaped.in_turn;
     begun = all_push (IsBegun log.acts) calls c h.shaped.begun (record {
       begun = omega (arith, now);
       later = all_front (λ a. a.call ≢ c.number) log.acts c.begin (no_act calls c.number log.acts new h.shaped.asked);
@@ -59,6 +79,7 @@ pub begins_anywhere : BeginsAnywhere
 begins_anywhere start = record {
   shaped = record {
     ordered = record { opened = record { once = tt; touched = tt; all = tt }; placed = tt; in_order = tt };
+    in_turn = tt;
     begun = tt;
     single = tt;
     asked = tt;

@@ -1,5 +1,5 @@
 -- Answers go on fitting when acts come.
-use Rattle.std.proofs.Common.{◌≡◌, ◌≢◌, ℕ, ◌≤◌, zero, suc, true, false, List, [], ◌∷◌, ◌++◌, length, Option, Some, None, sym, ap, subst, ◌∙◌, true≢false, arith, length-append}
+use Rattle.std.proofs.Common.{◌≡◌, ◌≢◌, ℕ, ◌≤◌, zero, suc, true, false, List, [], ◌∷◌, ◌++◌, length, Option, Some, None, refl, sym, ap, subst, ◌∙◌, true≢false, arith, length-append}
 use Rattle.std.specs.List.{AllByRecursion}
 use Rattle.std.proofs.lemmas.List.{take-append-le}
 use Rattle.obj_model.specs.declared.reply.Reply.{Reply}
@@ -9,12 +9,12 @@ use Rattle.obj_model.specs.declared.state.NameState.{NameState}
 use Rattle.obj_ops.specs.Acts.{act}
 use Rattle.obj_ops.specs.Stores.{Store, state_of}
 use Rattle.tier_chron.specs.Calls.{Call, call_of}
-use Rattle.tier_chron.specs.Fits.{HasReply, IsKept, Tells, TellsCall, TellsRead, TellsWrite}
-use Rattle.tier_chron.specs.Laws.{ActKeepsShape, ActKeepsTruth, AnswerKeeps, AnswerStays, MayLog}
+use Rattle.tier_chron.specs.Fits.{FitsCall, HasReply, IsKept, Tells, TellsCall, TellsRead, TellsWrite}
+use Rattle.tier_chron.specs.Laws.{ActKeepsShape, ActKeepsTruth, AnswerKeeps, AnswerStays, AnswersFit, MayLog}
 use Rattle.tier_chron.specs.Legal.{AreInOrder, IsOrdered, IsPlaced}
 use Rattle.tier_chron.specs.Logs.{Log, answered_log}
 use Rattle.tier_chron.specs.Places.{act_at, state_at}
-use Rattle.tier_chron.specs.Shapes.{AreSingle, HasNoAct, IsAnswered, IsAskedBy, IsBegun, Stands, StandsBeside, is_fault}
+use Rattle.tier_chron.specs.Shapes.{AreSingle, HasNoAct, HasOneAct, IsAnswered, IsAskedBy, IsBegun, Stands, StandsBeside, is_fault}
 use Rattle.tier_chron.specs.declared.answer.Answer.{Answer}
 use Rattle.tier_chron.specs.declared.answer.Answer.TheVariants as answer
 use Rattle.tier_chron.specs.declared.asked.Asked.{Asked}
@@ -72,12 +72,24 @@ tells_stay start acts a (Read client name vector) l le ne h =
     subst (λ (s : Store). TellsRead (state_of s name) vector l.answer) (sym (place_stays start acts (a ∷ []) l.place le)) h
 tells_stay start acts a other l le ne h = tt
 
+-- no act of the call stays at most one, and one act of another call adds none
+one_push : (acts : List Act) (a : Act) (call : ℕ) → (call ≡ a.call → HasNoAct call acts) → HasOneAct call acts → HasOneAct call (acts ++ a ∷ [])
+one_push [] a call first h = ((λ e. tt), tt)
+one_push (b ∷ acts) a call first h = (
+  λ e. all_push (λ c. c.call ≢ call) acts a (h.0 e) (λ same. (first (sym same)).0 e),
+  one_push acts a call (λ same. (first same).1) h.1,
+)
+
 -- an answer that fits goes on fitting
 pub answer_stays : (a : Act) (l : Logged) → AnswerStays a l
-answer_stays a l start acts asked le ne h = record {
+answer_stays a l start acts asked le may h = record {
   kind = h.kind;
-  beside = stands_stay acts a asked l ne h.beside;
-  told = tells_stay start acts a asked l le ne h.told;
+  numbers = h.numbers;
+  way = h.way;
+  single = one_push acts a l.call (λ e. (may e).first) h.single;
+  own = all_push (λ b. b.call ≡ l.call → asked ≡ Write b.req) acts a h.own (λ e. (may (sym e)).wanted);
+  beside = stands_stay acts a asked l (λ e. (may e).free) h.beside;
+  told = tells_stay start acts a asked l le (λ e. (may e).free) h.told;
 }
 
 -- ---- a whole history with one more act
@@ -98,6 +110,8 @@ answered_push acts a l (Some c) ne h = record {
   line = h.line;
   begin = h.begin;
   kind = h.kind;
+  numbers = h.numbers;
+  way = h.way;
   beside = stands_stay acts a c.asked l ne h.beside;
 }
 
@@ -105,6 +119,7 @@ answered_push acts a l (Some c) ne h = record {
 pub act_keeps_shape : (a : Act) → ActKeepsShape a
 act_keeps_shape a calls log f h may is = record {
   ordered = ordered_push f a log is h.ordered;
+  in_turn = h.in_turn;
   begun = all_imply (IsBegun log.acts) (IsBegun (log.acts ++ a ∷ [])) (begun_push log.acts a) calls h.begun;
   single = single_push log.acts a h.single may.first;
   asked = all_push (λ b. IsAskedBy b (call_of calls b.call)) log.acts a h.asked may.asked;
@@ -147,6 +162,7 @@ pub answer_keeps : (l : Logged) → AnswerKeeps l
 answer_keeps l start calls log h may told = record {
   shaped = record {
     ordered = ordered_answer calls log l h.shaped.ordered may;
+    in_turn = h.shaped.in_turn;
     begun = h.shaped.begun;
     single = h.shaped.single;
     asked = h.shaped.asked;
@@ -155,3 +171,31 @@ answer_keeps l start calls log h may told = record {
   legal = record { ordered = ordered_answer calls log l h.legal.ordered may; fresh = h.legal.fresh; first = h.legal.first };
   told = all_push (λ m. TellsCall start log.acts m (call_of calls m.call)) log.answers l h.told told;
 }
+
+-- ---- all of it says that each answer fits
+
+one_of : (acts : List Act) (call : ℕ) → AreSingle acts → HasOneAct call acts
+one_of [] call h = tt
+one_of (a ∷ acts) call h = (λ e. subst (λ n. HasNoAct n acts) e h.0, one_of acts call h.1)
+
+own_of : (calls : List Call) (a : Act) (call : ℕ) (c : Call) → call_of calls call ≡ Some c → IsAskedBy a (call_of calls a.call) → a.call ≡ call → c.asked ≡ Write a.req
+own_of calls a call c found asked e = (subst (IsAskedBy a) (ap (call_of calls) e ∙ found) asked).0
+
+fits_call : (start : Store) (calls : List Call) (acts : List Act) (l : Logged) (found : Option Call) → call_of calls l.call ≡ found → AreSingle acts
+    → AllByRecursion (λ a. IsAskedBy a (call_of calls a.call)) acts → IsAnswered acts l found → TellsCall start acts l found → FitsCall start acts l found
+fits_call start calls acts l None e single asked h told = h
+fits_call start calls acts l (Some c) e single asked h told = record {
+  kind = h.kind;
+  numbers = h.numbers;
+  way = h.way;
+  single = one_of acts l.call single;
+  own = all_imply (λ a. IsAskedBy a (call_of calls a.call)) (λ a. a.call ≡ l.call → c.asked ≡ Write a.req) (λ a k. own_of calls a l.call c e k) acts asked;
+  beside = h.beside;
+  told = told;
+}
+
+-- each answer of a history from a store fits
+pub answers_fit : (log : Log) → AnswersFit log
+answers_fit log start calls h =
+    all_both (λ l. IsAnswered log.acts l (call_of calls l.call)) (λ l. TellsCall start log.acts l (call_of calls l.call)) (λ l. FitsCall start log.acts l (call_of calls l.call))
+    (λ l k told. fits_call start calls log.acts l (call_of calls l.call) refl h.shaped.single h.shaped.asked k told) log.answers h.shaped.answered h.told

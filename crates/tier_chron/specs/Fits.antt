@@ -14,7 +14,7 @@ use Rattle.tier_chron.specs.Calls.{Call, call_of}
 use Rattle.tier_chron.specs.Legal.{IsLegal}
 use Rattle.tier_chron.specs.Logs.{Log}
 use Rattle.tier_chron.specs.Places.{state_at}
-use Rattle.tier_chron.specs.Shapes.{HasNoAct, IsShaped, Stands, may_answer}
+use Rattle.tier_chron.specs.Shapes.{DoesAsked, HasNoAct, HasOneAct, IsShaped, NumbersAgree, Stands, may_answer, may_go}
 use Rattle.tier_chron.specs.declared.answer.Answer.{Answer}
 use Rattle.tier_chron.specs.declared.answer.Answer.TheVariants as answer
 use Rattle.tier_chron.specs.declared.asked.Asked.{Asked}
@@ -60,11 +60,22 @@ Tells start acts (Read client name vector) l =
     TellsRead (state_at start acts l.place name) vector l.answer
 Tells start acts other l = Unit {0}
 
--- an answer fits what its call asked
+-- an answer fits what its call asked: it is one that the call may have; the call has one act at
+-- most, which does what it asked; the right acts stand beside the answer; and it tells what the
+-- plain store tells
 pub record Fits (start : Store) (acts : List Act) (asked : Asked) (l : Logged) : Type 0 where
   pub kind : may_answer asked l.answer ≡ true
+  pub numbers : NumbersAgree l.answer
+  pub way : may_go asked l.answer l.path ≡ true
+  pub single : HasOneAct l.call acts
+  pub own : DoesAsked l.call asked acts
   pub beside : Stands acts asked l
   pub told : Tells start acts asked l
+
+-- an answer fits what the call of its number asked
+abbrev pub FitsCall : Store → List Act → Logged → Option Call → Type 0
+FitsCall start acts l None = ⊥
+FitsCall start acts l (Some c) = Fits start acts c.asked l
 
 -- each answer tells the truth
 abbrev pub TellsCall : Store → List Act → Logged → Option Call → Type 0

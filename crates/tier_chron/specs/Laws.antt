@@ -3,12 +3,13 @@ use Rattle.std.specs.Prelude.{◌≡◌, ◌≢◌, ◌≤◌, ℕ, suc, true, f
 use Rattle.std.specs.List.{AllByRecursion}
 use Rattle.obj_ops.specs.Stores.{Store, state_of}
 use Rattle.tier_chron.specs.Calls.{Call, call_of}
-use Rattle.tier_chron.specs.Fits.{AreTrue, Fits, IsHistoryFrom, TellsCall}
+use Rattle.tier_chron.specs.Fits.{AreTrue, Fits, FitsCall, IsHistoryFrom, TellsCall}
 use Rattle.tier_chron.specs.Legal.{Acts, IsLegal, IsOrdered}
 use Rattle.tier_chron.specs.Logs.{Log, acted_log, answered_log, empty_log, is_opened}
 use Rattle.tier_chron.specs.Places.{act_at, behind, store_at, written_over}
 use Rattle.tier_chron.specs.Shapes.{HasNoAct, IsAnswered, IsAskedBy, IsShaped, is_fault}
 use Rattle.tier_chron.specs.declared.asked.Asked.{Asked}
+use Rattle.tier_chron.specs.declared.asked.Asked.TheVariants.{Write}
 use Rattle.tier_chron.specs.declared.entries.First.{First}
 use Rattle.tier_chron.specs.declared.entries.Act.{Act}
 use Rattle.tier_chron.specs.declared.entries.Logged.{Logged}
@@ -74,11 +75,18 @@ ActKeepsTruth a =
     (start : Store) (calls : List Call) (log : Log) (first : Option First) → IsShaped calls log
     → MayAct calls log a → AreTrue start calls log → AreTrue start calls (acted_log first a log)
 
--- an answer that fits goes on fitting behind an act of another call, and a fault behind any act
+-- the call of this answer may act so: it was answered a fault, has no act yet, and asked for this
+pub record MayFollow (acts : List Act) (asked : Asked) (l : Logged) (a : Act) : Type 0 where
+  pub free : is_fault l.answer ≡ true
+  pub first : HasNoAct l.call acts
+  pub wanted : asked ≡ Write a.req
+
+-- an answer that fits goes on fitting behind an act of another call, and a fault behind the first
+-- act of its own
 abbrev pub AnswerStays : Act → Logged → Type 0
 AnswerStays a l =
     (start : Store) (acts : List Act) (asked : Asked) → l.place ≤ length acts
-    → (l.call ≡ a.call → is_fault l.answer ≡ true) → Fits start acts asked l
+    → (l.call ≡ a.call → MayFollow acts asked l a) → Fits start acts asked l
     → Fits start (acts ++ a ∷ []) asked l
 
 -- ---- one answer more
@@ -101,6 +109,12 @@ AnswerKeeps l =
     → IsHistoryFrom start calls (answered_log l log)
 
 -- ---- what a caller may rely on
+
+-- in a history from a store, each answer fits what its call asked
+abbrev pub AnswersFit : Log → Type 0
+AnswersFit log =
+    (start : Store) (calls : List Call) → IsHistoryFrom start calls log
+    → AllByRecursion (λ l. FitsCall start log.acts l (call_of calls l.call)) log.answers
 
 -- two acts with one id: client, number and name
 pub record HaveOneId (a b : Act) : Type 0 where

@@ -1,6 +1,6 @@
 //! What follows from the definitions, in plain words. These calls do nothing: their contracts are
 //! the laws.
-ghost use Rattle.tier_chron.specs.Laws.{ActKeepsLegal, ActKeepsShape, ActKeepsTruth, AnswerKeeps, AnswerStays, BeginsAnywhere, CallKeeps, EachActed, IdsActOnce, OpeningIsUnderneath, PlacesStay, SeenBefore};
+ghost use Rattle.tier_chron.specs.Laws.{ActKeepsLegal, ActKeepsShape, ActKeepsTruth, AnswerKeeps, AnswerStays, AnswersFit, BeginsAnywhere, CallKeeps, EachActed, IdsActOnce, OpeningIsUnderneath, PlacesStay, SeenBefore};
 
 use crate::{Act, History, Logged};
 
@@ -41,8 +41,8 @@ pub fn an_act_keeps_answers_true(_act: &Act)
     ensures { ActKeepsTruth _act.now }
 {}
 
-/// An answer that fits goes on fitting behind every act of another call, and a fault behind any
-/// act.
+/// An answer that fits goes on fitting behind every act of another call, and a fault behind the
+/// first act of its own call.
 pub fn an_answer_goes_on_fitting(_act: &Act, _logged: &Logged)
     ensures { AnswerStays _act.now _logged.now }
 {}
@@ -52,6 +52,12 @@ pub fn an_answer_goes_on_fitting(_act: &Act, _logged: &Logged)
 #[tactic(auto, using(crate::proofs::Staying::answer_keeps))]
 pub fn an_answer_keeps_it(_logged: &Logged)
     ensures { AnswerKeeps _logged.now }
+{}
+
+/// In a history from a store each answer fits what its call asked.
+#[tactic(auto, using(crate::proofs::Staying::answers_fit))]
+pub fn answers_fit(_history: &History)
+    ensures { AnswersFit _history.now.log }
 {}
 
 /// In a legal history every request id acts at most once on its name.
