@@ -1,4 +1,4 @@
--- What is left of unfinished work when a call ends, and how reads join others.
+-- What is left of unfinished work when a call ends.
 use Rattle.std.specs.Prelude.{◌≡◌, ℕ, Bool, false, List, [], ◌∷◌, Option, Some, None, not, ◌==◌, filter, if◌then◌else◌}
 use Rattle.std.specs.FinMap as fin
 use Rattle.obj_model.specs.Names.{name_cmp}

@@ -1,4 +1,4 @@
-use Rattle.std.proofs.Common.{◌≡◌, ◌∙◌, ap, rules, tests}
+use Rattle.std.proofs.Common.{◌∙◌, ap, rules, tests}
 use Rattle.std.specs.Prelude.{filter}
 use Rattle.tier_flight.specs.Ends.{is_other}
 use Rattle.tier_flight.proofs.Retained.{filtered}
