@@ -18,7 +18,7 @@ pub record IsPage (t : Table) (max : ℕ) (after : Option (List ℕ)) (page : Li
   pub ver : ℕ
   pub its : obj.omap ≡ t
   pub told :
-    sub (OmapList after max) ver (Some obj) ≡ Ok (record { obj = Some obj; out = Pairs page })
+      sub (OmapList after max) ver (Some obj) ≡ Ok (record { obj = Some obj; out = Pairs page })
 
 -- the last key of a page, from which the page behind it is asked for; an empty page leaves the key
 abbrev pub last_key : Option (List ℕ) → List Pair → Option (List ℕ)

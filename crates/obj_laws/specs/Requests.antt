@@ -75,7 +75,7 @@ pub record IsActed (s : NameState) (r : Req) (t : NameState) (reply : Reply) : T
   pub below : IsCounted s → s.seq < number_limit
   pub counted : t.seq ≡ s.seq + 1
   pub kept :
-    kept_of r.client t.seen ≡ Some (record { client = r.client; tid = r.tid; reply = reply })
+      kept_of r.client t.seen ≡ Some (record { client = r.client; tid = r.tid; reply = reply })
 
 -- each act is such
 abbrev pub ActsCount : NameState → Req → Type 0

@@ -6,9 +6,11 @@
 //! that answers as the plain store does.
 #![tactic(auto)]
 
+mod idle;
 mod pages;
 mod requests;
 
+pub use idle::{guards_exchange, only_version_rises, present_is_idle};
 pub use pages::{
     full_pages_are_few, keys_rise, pages_tell_all, pages_tell_each_once, reading_ends,
     short_page_is_last,
