@@ -1,5 +1,5 @@
 -- Sub-operations that change nothing, and guards beside each other.
-use Rattle.std.proofs.Common.{◌≡◌, ◌<◌, ◌≤◌, ℕ, ◌+◌, ◌-◌, Bool, true, false, cond, List, [], ◌∷◌, ◌++◌, length, take, drop, Option, Some, None, Result, Ok, Err, nat_lt, zero, suc, refl, sym, ap, subst, ◌∙◌, arith, append_assoc}
+use Rattle.std.proofs.Common.{◌≡◌, ◌≤◌, ℕ, ◌+◌, ◌-◌, Bool, true, false, cond, List, [], ◌∷◌, ◌++◌, length, take, drop, Option, Some, None, Result, Ok, Err, nat_lt, zero, suc, refl, sym, ap, subst, ◌∙◌, arith, append_assoc}
 use Rattle.std.specs.Prelude.{replicate, bytes_eq}
 use Rattle.std.specs.FinMap as fin
 use Rattle.std.specs.List.{AllByRecursion}
@@ -11,7 +11,6 @@ use Rattle.obj_model.specs.SubOps.{kind}
 use Rattle.obj_model.specs.declared.sub_op.OpKind.TheVariants.{Guard}
 use Rattle.obj_model.specs.declared.sub_op.SubOp.{SubOp}
 use Rattle.obj_model.specs.declared.sub_op.SubOp.TheVariants.{Create, WriteFull, Write, Append, Zero, Truncate, Remove, SetXattr, RmXattr, OmapSet, OmapRm, OmapClear, AssertExists, AssertVer, CmpXattr, Read, Stat, GetXattr, ListXattrs, OmapGet, OmapList}
-use Rattle.obj_model.specs.declared.reply.Reply.{Reply}
 use Rattle.obj_model.specs.declared.reply.Reply.TheVariants.{Done}
 use Rattle.obj_model.specs.declared.reply.Why.{Why}
 use Rattle.obj_model.specs.declared.reply.Why.TheVariants.{Canceled, Overflow, Range, TooBig}
@@ -26,7 +25,7 @@ use Rattle.obj_ops.specs.Effects.{put_body, resized, same_value, within, written
 use Rattle.obj_ops.specs.Ops.{Step, Run, Refusal, leaves, tells, sub, telling, go_on, run_from, run}
 use Rattle.obj_ops.specs.Acts.{act, acted}
 use Rattle.obj_ops.proofs.Cases.{act_cases}
-use Rattle.obj_laws.specs.Idle.{AsksForPresent, GuardsExchange, IsIdle, OnlyVersionRises, PresentIsIdle}
+use Rattle.obj_laws.specs.Idle.{GuardsExchange, IsIdle, OnlyVersionRises, PresentIsIdle}
 
 -- an object that is given its own body, within the limit
 same_body : (asked : ℕ) (bytes : List ℕ) (x : Obj) → asked ≤ body_limit → bytes ≡ x.body

@@ -1,5 +1,5 @@
 -- Pages of an omap, put together.
-use Rattle.std.proofs.Common.{◌≡◌, ◌<◌, ◌≤◌, ℕ, ◌+◌, ◌-◌, ◌*◌, suc, Bool, true, false, List, [], ◌∷◌, ◌++◌, length, map, take, drop, Option, Some, None, Ok, nat_lt, Result, zero, zero-mul, refl, sym, ap, subst, ◌∙◌, arith}
+use Rattle.std.proofs.Common.{◌≡◌, ◌<◌, ◌≤◌, ℕ, ◌+◌, ◌*◌, suc, Bool, true, false, List, [], ◌∷◌, ◌++◌, length, map, take, drop, Option, Some, None, Ok, nat_lt, Result, zero, zero-mul, refl, sym, ap, subst, ◌∙◌, arith}
 use Rattle.std.specs.Prelude.{T, ◌&&◌, filter}
 use Rattle.std.specs.FinMap as fin
 use Rattle.std.specs.FinMap.{entries_sorted}
@@ -22,7 +22,7 @@ use Rattle.obj_model.specs.declared.reply.Why.{Why}
 use Rattle.obj_model.specs.declared.state.Obj.{Obj}
 use Rattle.obj_ops.specs.Effects.{empty_obj, page, pair_of}
 use Rattle.obj_ops.specs.Ops.{Step}
-use Rattle.obj_laws.specs.Pages.{AreInTurn, EndShort, FullPagesAreFew, IsPage, KeysRise, PagesTellAll, PagesTellEachOnce, Reading, ReadingEnds, ShortPageIsLast, all_told, last_key, pairs_above, pairs_of}
+use Rattle.obj_laws.specs.Pages.{AreInTurn, EndShort, FullPagesAreFew, IsPage, KeysRise, PagesTellAll, PagesTellEachOnce, Reading, ReadingEnds, ShortPageIsLast, all_told, last_key, pairs_above}
 
 abbrev Entry : Type 0
 Entry = List ℕ × List ℕ

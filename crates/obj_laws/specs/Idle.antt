@@ -40,7 +40,8 @@ OnlyVersionRises s r =
     → AllByRecursion (λ op. IsIdle op x) r.vector → act s r ≡ Fresh t reply
     → (t.obj ≡ s.obj) × (t.ver ≡ s.ver + 1) × (reply ≡ Done (s.ver + 1))
 
--- two guards beside each other may change places: a vector that is accepted leaves and tells the same
+-- two guards beside each other may change places: a vector that is accepted leaves and tells the
+-- same
 abbrev pub GuardsExchange : SubOp → SubOp → Type 0
 GuardsExchange g h =
     (ver : ℕ) (front behind : List SubOp) (o : Option Obj) (r : Run)

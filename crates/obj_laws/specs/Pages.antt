@@ -12,7 +12,8 @@ use Rattle.obj_model.specs.declared.out.Out.TheVariants.{Pairs}
 use Rattle.obj_ops.specs.Effects.{pair_of}
 use Rattle.obj_ops.specs.Ops.{sub}
 
--- this page was told of an object with this omap, whatever else the object had then, at whatever version of its name
+-- this page was told of an object with this omap, whatever else the object had then, at whatever
+-- version of its name
 pub record IsPage (t : Table) (max : ℕ) (after : Option (List ℕ)) (page : List Pair) : Type 0 where
   pub obj : Obj
   pub ver : ℕ
@@ -56,12 +57,14 @@ KeysRise t max =
     (after : Option (List ℕ)) (pages : List (List Pair)) → AreInTurn t max after pages
     → IsStrictlySortedBy name_cmp (map (λ p. p.key) (all_told pages))
 
--- a page with fewer entries than were asked for tells all that is left, and pages behind it tell nothing
+-- a page with fewer entries than were asked for tells all that is left, and pages behind it tell
+-- nothing
 abbrev pub ShortPageIsLast : Table → ℕ → Type 0
 ShortPageIsLast t max =
     (after : Option (List ℕ)) (page : List Pair) → IsPage t max after page → length page < max
     → (page ≡ pairs_above after t)
-    × ((pages : List (List Pair)) → AreInTurn t max (last_key after page) pages → all_told pages ≡ [])
+    × ((pages : List (List Pair)) → AreInTurn t max (last_key after page) pages
+    → all_told pages ≡ [])
 
 -- the last of these pages is short
 abbrev pub EndShort : ℕ → List (List Pair) → Type 0
@@ -83,7 +86,8 @@ FullPagesAreFew t max =
     → AllByRecursion (λ page. length page ≡ max) pages
     → length pages * max ≤ length (pairs_above after t)
 
--- a reading from a key to a short page: it has room for one entry more than there are, and no page more than that takes
+-- a reading from a key to a short page: it has room for one entry more than there are, and no page
+-- more than that takes
 pub record Reading (t : Table) (max : ℕ) (after : Option (List ℕ)) : Type 0 where
   pub pages : List (List Pair)
   pub in_turn : AreInTurn t max after pages

@@ -22,7 +22,8 @@ abbrev pub IsBefore : ℕ → Option Kept → Type 0
 IsBefore tid None = Unit {0}
 IsBefore tid (Some k) = k.tid < tid
 
--- an answer without an act: that of a request that acted before, or of one behind which a later one acted
+-- an answer without an act: that of a request that acted before, or of one behind which a later one
+-- acted
 abbrev pub IsPast : Acted → Type 0
 IsPast (Fresh t reply) = ⊥
 IsPast (Again reply) = Unit {0}
@@ -44,7 +45,8 @@ ActLowersNoTid s r =
 -- nor do any requests, one after another
 abbrev pub TidsStay : List ℕ → ℕ → Type 0
 TidsStay name client =
-    (store : Store) (rs : List Req) (tid : ℕ) → HasTid tid (kept_of client (state_of store name).seen)
+    (store : Store) (rs : List Req) (tid : ℕ)
+    → HasTid tid (kept_of client (state_of store name).seen)
     → HasTid tid (kept_of client (state_of (replay store rs) name).seen)
 
 -- stale behind this tid, or a later one
@@ -65,10 +67,11 @@ Follows r (Worn limit) next = next ≡ Worn limit
 abbrev pub AnswersStay : Req → Type 0
 AnswersStay r =
     (store : Store) (others : List Req)
-    → Follows r (act (state_of store r.name) r) (act (state_of (replay store (r ∷ others)) r.name) r)
+    → Follows r (act (state_of store r.name) r)
+    (act (state_of (replay store (r ∷ others)) r.name) r)
 
--- around an act: the request is later than what was kept of its client, its name was not worn out, the act counts one
--- and is kept with its reply
+-- around an act: the request is later than what was kept of its client, its name was not worn out,
+-- the act counts one and is kept with its reply
 pub record IsActed (s : NameState) (r : Req) (t : NameState) (reply : Reply) : Type 0 where
   pub later : IsBefore r.tid (kept_of r.client s.seen)
   pub room : s.seq ≢ number_limit

@@ -1,9 +1,9 @@
-//! Laws of the plain object store, in plain words: lists that are read in pages, requests over long runs, and changes
-//! that change nothing.
+//! Laws of the plain object store, in plain words: lists that are read in pages, requests over long
+//! runs, and changes that change nothing.
 //!
-//! The calls of this crate do nothing: their contracts are the laws. Whoever lists an omap by pages, or keeps requests
-//! over stops and long runs, cites them here. Each speaks of the definitions of `obj_ops`, so it holds of every layer
-//! that answers as the plain store does.
+//! The calls of this crate do nothing: their contracts are the laws. Whoever lists an omap by
+//! pages, or keeps requests over stops and long runs, cites them here. Each speaks of the
+//! definitions of `obj_ops`, so it holds of every layer that answers as the plain store does.
 #![tactic(auto)]
 
 mod idle;

@@ -3,7 +3,8 @@ ghost use Rattle.obj_laws.specs.Requests.{ActLowersNoTid, ActsCount, AnswersStay
 
 use obj_model::{Name, NameState, Req};
 
-/// A request is answered again, or is stale, exactly where its tid or a later one is kept of its client.
+/// A request is answered again, or is stale, exactly where its tid or a later one is kept of its
+/// client.
 pub fn past_is_kept(_state: &NameState, _req: &Req)
     ensures { PastIsKept _state.now _req.now }
 {}
@@ -18,16 +19,16 @@ pub fn tids_stay(_name: &Name, _client: u64)
     ensures { TidsStay _name.now _client }
 {}
 
-/// A request that was answered does not act again, whatever requests come between: where it acted or was answered
-/// again it is answered with the same reply or is stale, where it was stale it stays so, and where its name was worn
-/// out it still is.
+/// A request that was answered does not act again, whatever requests come between: where it acted
+/// or was answered again it is answered with the same reply or is stale, where it was stale it
+/// stays so, and where its name was worn out it still is.
 #[tactic(auto, using(crate::proofs::Requesting::answers_stay))]
 pub fn answers_stay(_req: &Req)
     ensures { AnswersStay _req.now }
 {}
 
-/// A request acts only where it is later than what is kept of its client and where `seq` is below its limit. Then `seq`
-/// rises by one, and the request is kept with its reply.
+/// A request acts only where it is later than what is kept of its client and where `seq` is below
+/// its limit. Then `seq` rises by one, and the request is kept with its reply.
 #[tactic(auto, using(crate::proofs::Requesting::acts_count))]
 pub fn acts_count(_state: &NameState, _req: &Req)
     ensures { ActsCount _state.now _req.now }
