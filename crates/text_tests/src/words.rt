@@ -1,4 +1,4 @@
-//! Words of the command line that were worked out by hand: what they ask for, and which are refused.
+//! Words of the command line that were worked out by hand: what they ask for, and the refused.
 use std::alloc::Global;
 use std::test::*;
 use tool_words::{BadWords, Invocation, Job, read_words};
@@ -46,7 +46,13 @@ fn taken(rt: HostRuntime) -> Result<(), Fail> {
         ("run --history", Job::Run, "h", 1000, 1),
         ("run --summary", Job::Run, "s", 1000, 1),
         ("--paths run --summary", Job::Run, "ps", 1000, 1),
-        ("--summary --history --paths show", Job::Show, "phs", 1000, 1),
+        (
+            "--summary --history --paths show",
+            Job::Show,
+            "phs",
+            1000,
+            1,
+        ),
         ("gen --count 7", Job::Gen, "", 7, 1),
         ("--count 7 gen", Job::Gen, "", 7, 1),
         ("gen --count=5", Job::Gen, "", 5, 1),
@@ -56,11 +62,23 @@ fn taken(rt: HostRuntime) -> Result<(), Fail> {
         ("gen --count 007", Job::Gen, "", 7, 1),
         ("gen --count +7", Job::Gen, "", 7, 1),
         ("gen --count=+007", Job::Gen, "", 7, 1),
-        ("gen --count 0000000000000000000000000001000000", Job::Gen, "", 1_000_000, 1),
+        (
+            "gen --count 0000000000000000000000000001000000",
+            Job::Gen,
+            "",
+            1_000_000,
+            1,
+        ),
         ("gen --start 9", Job::Gen, "", 1000, 9),
         ("gen --start=0", Job::Gen, "", 1000, 0),
         ("gen --start +3", Job::Gen, "", 1000, 3),
-        ("gen --start 18446744073709551615", Job::Gen, "", 1000, u64::MAX),
+        (
+            "gen --start 18446744073709551615",
+            Job::Gen,
+            "",
+            1000,
+            u64::MAX,
+        ),
         ("gen --count 3 --start 4", Job::Gen, "", 3, 4),
         ("gen --start 4 --count 3", Job::Gen, "", 3, 4),
         ("check --count 3 --start 4 --history", Job::Check, "h", 3, 4),
@@ -69,10 +87,19 @@ fn taken(rt: HostRuntime) -> Result<(), Fail> {
         ("--paths -- run", Job::Run, "p", 1000, 1),
         ("--count=5 -- gen", Job::Gen, "", 5, 1),
         ("--count 5 -- gen", Job::Gen, "", 5, 1),
-        ("run --paths --history --summary --count 1 --start 2", Job::Run, "phs", 1, 2),
+        (
+            "run --paths --history --summary --count 1 --start 2",
+            Job::Run,
+            "phs",
+            1,
+            2,
+        ),
     ];
     for (text, job, flags, count, start) in cases {
-        assert!(rt; is_asked(asked(alloc, text)?, job, flags, count, start), "{text}");
+        assert!(rt;
+            is_asked(asked(alloc, text)?, job, flags, count, start),
+            "{text}"
+        );
     }
     Ok(())
 }
