@@ -4,3 +4,5 @@
 
 #[cfg(test)]
 mod scripts;
+#[cfg(test)]
+mod words;

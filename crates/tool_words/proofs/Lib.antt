@@ -1,0 +1,4 @@
+mod Flags
+mod Passing
+mod Reading
+mod Tool
