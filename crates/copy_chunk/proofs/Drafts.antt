@@ -1,7 +1,6 @@
 -- What is put into a table of a draft is put into the table of its state.
-use Rattle.std.proofs.Common.{◌≡◌, ◌++◌, ℕ, Bool, true, false, List, map, Some, None, refl, sym, ap, ◌∙◌}
+use Rattle.std.proofs.Common.{◌++◌, ℕ, Bool, true, false, List, map, Some, None, sym, ap, ◌∙◌}
 use Rattle.std.specs.FinMap as fin
-use Rattle.obj_model.specs.Names.{name_cmp}
 use Rattle.obj_model.specs.declared.out.Pair.{Pair}
 use Rattle.obj_model.specs.declared.reply.Kept.{Kept}
 use Rattle.obj_model.specs.declared.state.NameState.{NameState}

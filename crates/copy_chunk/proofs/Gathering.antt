@@ -6,8 +6,8 @@ use Rattle.obj_model.specs.States.{unknown, IsState}
 use Rattle.obj_model.specs.declared.state.NameState.{NameState}
 use Rattle.copy_chunk.specs.declared.chunk.Chunk.{Chunk}
 use Rattle.copy_chunk.specs.declared.chunk.Cursor.{Cursor}
-use Rattle.copy_chunk.specs.declared.chunk.Cursor.TheVariants.{Head, Body, Attrs, Omap, Seen}
-use Rattle.copy_chunk.specs.Gathers.{with_part, made_from, made, wanted, joined, IsChain, leads, part_fits, chunk_fits, fits}
+use Rattle.copy_chunk.specs.declared.chunk.Cursor.TheVariants.{Head}
+use Rattle.copy_chunk.specs.Gathers.{with_part, made_from, made, joined, IsChain, leads, part_fits, fits}
 use Rattle.copy_chunk.specs.Steps.{Puts, IsGathered}
 use Rattle.copy_chunk.proofs.Fronts.{wanted_more, chain_more, wanted_first}
 use Rattle.copy_chunk.proofs.Lawful.{first_lawful, part_lawful}

@@ -1,5 +1,5 @@
 -- The chunks of a state join to it.
-use Rattle.std.proofs.Common.{◌≡◌, ◌≤◌, ◌+◌, ◌-◌, ◌*◌, ◌/◌, ℕ, zero, suc, Bool, true, false, cond, List, [], ◌∷◌, ◌++◌, map, length, take, drop, Option, Some, None, refl, sym, ap, subst, ◌∙◌, append_assoc, arith}
+use Rattle.std.proofs.Common.{◌≡◌, ◌≤◌, ◌+◌, ◌-◌, ◌*◌, ℕ, zero, suc, Bool, true, false, cond, List, [], ◌∷◌, ◌++◌, map, length, take, drop, Option, Some, None, refl, sym, ap, subst, ◌∙◌, append_assoc, arith}
 use Rattle.std.specs.Prelude.{nat_le, is_some}
 use Rattle.std.specs.List.{flat_map}
 use Rattle.std.proofs.lemmas.List.{append-nil, take-append-drop, length-drop, nil_from_length}
@@ -8,17 +8,14 @@ use Rattle.std.specs.FinMap as fin
 use Rattle.obj_model.specs.Names.{name_cmp}
 use Rattle.obj_model.specs.States.{unknown}
 use Rattle.obj_model.proofs.NameMaps.{kept_entries}
-use Rattle.obj_model.specs.declared.out.Pair.{Pair}
 use Rattle.obj_model.specs.declared.reply.Kept.{Kept}
 use Rattle.obj_model.specs.declared.state.Obj.{Obj}
 use Rattle.obj_model.specs.declared.state.NameState.{NameState}
-use Rattle.copy_chunk.specs.declared.chunk.Chunk.{Chunk}
 use Rattle.copy_chunk.specs.declared.chunk.Cursor.{Cursor}
-use Rattle.copy_chunk.specs.declared.chunk.Cursor.TheVariants.{Head, Body, Attrs, Omap, Seen}
-use Rattle.copy_chunk.specs.declared.chunk.Part.{Part}
+use Rattle.copy_chunk.specs.declared.chunk.Cursor.TheVariants.{Head, Attrs, Omap, Seen}
 use Rattle.copy_chunk.specs.declared.chunk.Part.TheVariants as part
-use Rattle.copy_chunk.specs.Chunks.{Entry, Piece, pair_of, entry_of, pieces_in, body_pieces, weight, before_first, groups, table_groups, last_key, table_pieces, object_pieces, pieces_of, first_place, linked, chunks_of}
-use Rattle.copy_chunk.specs.Gathers.{bare_object, with_part, made_from, made, wanted_from, wanted, joined}
+use Rattle.copy_chunk.specs.Chunks.{Entry, Piece, pair_of, entry_of, pieces_in, body_pieces, weight, before_first, groups, table_groups, last_key, table_pieces, object_pieces, pieces_of, linked, chunks_of}
+use Rattle.copy_chunk.specs.Gathers.{with_part, made_from, made}
 use Rattle.copy_chunk.proofs.Tables.{Table, Rising, entries_rise, made_of_entries, front_rises}
 
 -- ---- pieces, without the places behind them

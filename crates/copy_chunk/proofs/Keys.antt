@@ -1,7 +1,6 @@
 -- Rising entries that grow at their end.
-use Rattle.std.proofs.Common.{◌≡◌, ◌≤◌, ◌-◌, ◌+◌, ◌<◌, ℕ, zero, suc, Bool, true, false, ◌&&◌, List, [], ◌∷◌, ◌++◌, map, length, take, Option, Some, None, refl, sym, ap, subst, ◌∙◌, append_assoc, arith, length-append}
+use Rattle.std.proofs.Common.{◌≡◌, ◌≤◌, ◌-◌, ◌+◌, ℕ, suc, Bool, true, false, ◌&&◌, List, [], ◌∷◌, ◌++◌, map, length, take, Option, Some, None, refl, sym, ap, subst, ◌∙◌, append_assoc, arith, length-append}
 use Rattle.std.specs.Prelude.{slice_get, nat_lt, nat_le}
-use Rattle.std.specs.List.{AllByRecursion}
 use Rattle.std.specs.List.Sorted.{IsStrictlySortedBy}
 use Rattle.std.specs.Ordering.{is_lt, ordering_reverse, match_ordering}
 use Rattle.std.specs.declared.cmp.Ordering.{Ordering}
@@ -14,7 +13,6 @@ use Rattle.obj_model.specs.declared.out.Pair.{Pair}
 use Rattle.copy_chunk.specs.Chunks.{Entry, entry_of, last_key}
 use Rattle.copy_chunk.specs.Gathers.{goes_behind, pairs_fit, table_fits}
 use Rattle.copy_chunk.specs.Steps.{IsRising}
-use Rattle.copy_chunk.proofs.Tables.{front_rises}
 use Rattle.copy_chunk.proofs.Places.{Above, above_tail}
 
 -- the key of the last entry
@@ -80,7 +78,7 @@ less Less e = refl
 less Equal e = absurd cc
 less Greater e = absurd cc
 
-raise : (j k : List ℕ) (es : List Entry) → name_cmp j k ≡ Less → Above k es → Above j es
+pub raise : (j k : List ℕ) (es : List Entry) → name_cmp j k ≡ Less → Above k es → Above j es
 raise j k [] h all = tt
 raise j k (e ∷ es) h all = (nat_list_cmp_total.trans j k e.0 h all.0, raise j k es h all.1)
 

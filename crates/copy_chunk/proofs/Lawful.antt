@@ -1,17 +1,17 @@
 -- A lawful state stays lawful with a part that fits.
-use Rattle.std.proofs.Common.{◌≡◌, ◌≤◌, ◌<◌, ◌+◌, ◌^◌, ℕ, suc, Bool, true, false, ◌&&◌, List, [], ◌∷◌, ◌++◌, map, length, Option, Some, None, refl, sym, ap, subst, ◌∙◌, arith, length-append}
+use Rattle.std.proofs.Common.{◌≡◌, ◌≤◌, ◌<◌, ◌+◌, ◌^◌, ℕ, suc, Bool, true, false, ◌&&◌, List, [], ◌∷◌, ◌++◌, map, length, Option, Some, None, refl, sym, ap, subst, arith, length-append}
 use Rattle.std.proofs.lemmas.Bool.{leb-true, ltb-true}
 use Rattle.std.specs.Prelude.{nat_le, nat_lt}
 use Rattle.std.specs.List.{AllByRecursion, All}
 use Rattle.std.specs.List.Sorted.{IsStrictlySortedBy}
 use Rattle.std.specs.Ordering.{nat_cmp}
-use Rattle.std.specs.declared.cmp.Ordering.TheVariants.{Less, Equal, Greater}
+use Rattle.std.specs.declared.cmp.Ordering.TheVariants.{Less}
 use Rattle.std.specs.Cmp.{nat_cmp_is, nat_cmp_total}
 use Rattle.std.proofs.lemmas.List.Elements.{All-from_recursion, recursion_from_All}
 use Rattle.std.specs.FinMap as fin
 use Rattle.std.specs.FinMap.{len-entries, len-empty}
 use Rattle.obj_model.specs.Names.{name_cmp}
-use Rattle.obj_model.specs.States.{unknown, IsCounted, IsReply, IsKept, IsTable, IsObj, IsObjOrNone, IsState}
+use Rattle.obj_model.specs.States.{unknown, IsReply, IsKept, IsTable, IsObj, IsObjOrNone, IsState}
 use Rattle.obj_model.specs.declared.out.Pair.{Pair}
 use Rattle.obj_model.specs.declared.reply.Kept.{Kept}
 use Rattle.obj_model.specs.declared.reply.Reply.{Reply}
@@ -24,7 +24,7 @@ use Rattle.copy_chunk.specs.declared.chunk.Cursor.TheVariants.{Head, Body, Attrs
 use Rattle.copy_chunk.specs.declared.chunk.Part.{Part}
 use Rattle.copy_chunk.specs.declared.chunk.Part.TheVariants as part
 use Rattle.copy_chunk.specs.Chunks.{Entry, entry_of, last_key}
-use Rattle.copy_chunk.specs.Gathers.{bare_object, entries_with, with_part, goes_behind, pairs_fit, table_fits, body_fits, reply_fits, kept_fits, kepts_fit, part_fits}
+use Rattle.copy_chunk.specs.Gathers.{entries_with, with_part, goes_behind, pairs_fit, table_fits, reply_fits, kept_fits, kepts_fit, part_fits}
 use Rattle.copy_chunk.specs.Steps.{IsRising}
 use Rattle.copy_chunk.proofs.Tables.{Table, entries_rise}
 use Rattle.copy_chunk.proofs.Keys.{and_both, taken_rise}

@@ -6,3 +6,7 @@ pub mod Keys
 pub mod Drafts
 pub mod Lawful
 pub mod Gathering
+pub mod Grouping
+pub mod Cutting
+pub mod TableCuts
+pub mod Pieces

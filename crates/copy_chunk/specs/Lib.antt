@@ -1,3 +1,4 @@
 pub mod Chunks
 pub mod Gathers
 pub mod Steps
+pub mod Cuts

@@ -1,4 +1,3 @@
-use Rattle.std.proofs.Common.{refl}
 use Rattle.std.proofs.lemmas.Result.{IfOk-weaker}
 use Rattle.copy_chunk.proofs.Drafts.{attrs_put}
 use Rattle.copy_chunk.proofs.draft.Draft.put_attrs.Goals as goal

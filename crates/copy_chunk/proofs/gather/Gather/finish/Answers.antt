@@ -1,4 +1,4 @@
-use Rattle.std.proofs.Common.{Option, Some, None, refl, sym, ap, subst, ◌∙◌}
+use Rattle.std.proofs.Common.{Option, Some, refl, sym, ap, subst, ◌∙◌}
 use Rattle.copy_chunk.specs.declared.chunk.Cursor.{Cursor}
 use Rattle.copy_chunk.specs.Gathers.{joined}
 use Rattle.copy_chunk.specs.Steps.{state_of, IsGathered}
