@@ -1,4 +1,5 @@
-//! The chunk at a place of a state. Only its piece is copied: of the pairs before it lengths alone are added up.
+//! The chunk at a place of a state. Only its piece is copied: of the pairs before it lengths alone
+//! are added up.
 ghost use Rattle.std.specs.Prelude.{◌≡◌, ◌+◌, ◌<◌, ◌^◌, IfOk, take, nat_lt, if◌then◌else◌};
 ghost use Rattle.copy_chunk.specs.declared.chunk.Cursor.TheVariants as place;
 ghost use Rattle.copy_chunk.specs.Chunks.{chunks_of, chunk_at};

@@ -1,4 +1,5 @@
-//! A state in the making. What a part would break is found before anything changes, and want of memory leaves it as it was.
+//! A state in the making. What a part would break is found before anything changes, and want of
+//! memory leaves it as it was.
 ghost use Rattle.std.specs.Prelude.{◌≡◌, ◌≤◌, ◌+◌, ◌++◌, ◌^◌, nat_lt, nat_le, ◌&&◌, length, take, map, None, Some, IfOk, OnOk, OnErr};
 ghost use Rattle.std.specs.BTreeMap.{IsOrdered};
 ghost use Rattle.std.specs.Option.{option_copied};
@@ -221,7 +222,8 @@ impl Draft {
         put_table(&mut self.attrs, ATTRS_LIMIT, pairs)
     }
 
-    // Entries of the omap behind those that are there, where they fit. Without memory nothing changes.
+    // Entries of the omap behind those that are there, where they fit. Without memory nothing
+    // changes.
     fn put_omap(&mut self, pairs: PairList) -> Result<bool, NoMemory>
         ensures put { IfOk result (λ done. Puts (Omap None) (part.Pairs pairs) (state_of self.old) done (state_of self.new)) }
         ensures refused { OnErr result (state_of self.new ≡ state_of self.old) }

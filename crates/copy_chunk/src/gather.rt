@@ -19,12 +19,14 @@ pub enum Added {
     Taken,
     /// It was not the wanted chunk. Nothing changed.
     Ignored,
-    /// It stands at the wanted place, but no lawful state has it behind the others: a limit would be passed, keys or
-    /// clients would not rise, or it brings nothing or something of another kind. Nothing changed.
+    /// It stands at the wanted place, but no lawful state has it behind the others: a limit would
+    /// be passed, keys or clients would not rise, or it brings nothing or something of another
+    /// kind. Nothing changed.
     Unfit,
 }
 
-/// The first chunks of a state, put together. It is seen as the list of these chunks, of which it keeps no copy.
+/// The first chunks of a state, put together. It is seen as the list of these chunks, of which it
+/// keeps no copy.
 #[derive(Drop)]
 pub struct Gather {
     draft: Draft,
@@ -86,7 +88,8 @@ impl Gather {
         Ok(Added::Taken)
     }
 
-    /// The state that the chunks join to; the gather as it was where a chunk is still wanted. It takes no memory.
+    /// The state that the chunks join to; the gather as it was where a chunk is still wanted. It
+    /// takes no memory.
     pub fn finish(self) -> Result<NameState, Gather>
         ensures exact { MatchResult result (λ s. joined self ≡ Some s) (λ g. (g ≡ self) × (joined self ≡ None)) }
         ensures lawful { IfOk result IsState }
@@ -112,7 +115,8 @@ fn is_at(wanted: &Option<Cursor>, at: &Cursor) -> bool
     }
 }
 
-// What may follow a place: nothing behind the kept requests, anything but the head behind the others.
+// What may follow a place: nothing behind the kept requests, anything but the head behind the
+// others.
 fn leads(at: &Cursor, next: &Option<Cursor>) -> bool
     ensures { result ≡ leads at.now next.now }
 {

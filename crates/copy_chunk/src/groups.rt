@@ -26,7 +26,8 @@ fn weight(key: &Name, value: &Bytes) -> usize
     key.bytes().len() + value.as_slice().len()
 }
 
-// The room that is left in a group once a pair came, in the same group where it fits and else in a new one.
+// The room that is left in a group once a pair came, in the same group where it fits and else in a
+// new one.
 fn room_left(room: usize, bytes: usize) -> usize
     ensures { result ≡ (if nat_le bytes room then room - bytes else 65536 - bytes) }
 {

@@ -1,8 +1,9 @@
 //! The state of a name in chunks, as it goes from one pool to the other, and the gathering of them.
 //!
-//! A state has one list of chunks, which join to it. `chunk_of` gives the chunk at a place of it, and none exactly
-//! where the place is none of this state. A gather takes the wanted chunk where it fits, in their order and no other;
-//! when the last one is there it gives the state that they join to, which is within all limits.
+//! A state has one list of chunks, which join to it. `chunk_of` gives the chunk at a place of it,
+//! and none exactly where the place is none of this state. A gather takes the wanted chunk where it
+//! fits, in their order and no other; when the last one is there it gives the state that they join
+//! to, which is within all limits.
 #![tactic(auto)]
 
 mod chunk;
