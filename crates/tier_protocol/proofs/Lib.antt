@@ -10,3 +10,4 @@ pub mod Truth
 pub mod Worlds
 pub mod Fits
 pub mod Owners
+pub mod MemoryMoves

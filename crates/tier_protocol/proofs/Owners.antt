@@ -15,7 +15,7 @@ use Rattle.obj_model.specs.Names.{name_cmp}
 use Rattle.tier_types.specs.Flights.{IsLeftOf}
 use Rattle.tier_types.specs.Serving.{Served, lasting, put_by, told_of}
 use Rattle.tier_protocol.specs.Tiers.{Name, Flight, BaseMsg, BaseReply, BaseActed, Net, Tier, Cell, IsIn, cell_of}
-use Rattle.tier_protocol.specs.Sound.{Covers, IsSpent, IsWriting, is_dirty}
+use Rattle.tier_protocol.specs.Sound.{Covers, IsSound, IsSpent, IsWriting, is_dirty}
 use Rattle.tier_protocol.specs.Moves.{delivered, stopped_cache, with_act, with_base, with_left, with_net, with_served, Loses}
 use Rattle.tier_protocol.specs.Owners.{ActsAreOwned, AreOnce, Asking, CallAct, HasNoAct, IsOpen, LandingFits, Ledger, LossesAreQuiet, NumbersStay, Owned, Quiet, QuietKeeps, SoundOwners, SoundWriting, number_of, with_call_act}
 use Rattle.tier_protocol.proofs.Requests.{covered_not_fresh, covers_stays, fresh_again, fresh_covers, fresh_room, fresh_seq}
@@ -24,26 +24,26 @@ use Rattle.tier_protocol.proofs.Delivers.{acts_on_plain, flies, in_epoch_by}
 
 -- ---- lists of acts
 
-in_more : {X : Type 0} (xs : List X) (x y : X) → IsIn y (xs ++ x ∷ []) → IsIn y xs ⊎ (y ≡ x)
+pub in_more : {X : Type 0} (xs : List X) (x y : X) → IsIn y (xs ++ x ∷ []) → IsIn y xs ⊎ (y ≡ x)
 in_more [] x y (inl same) = inr same
 in_more [] x y (inr none) = absurd none
 in_more (z ∷ zs) x y (inl same) = inl (inl same)
 in_more (z ∷ zs) x y (inr on) = elim (in_more zs x y on) [ inl old ↦ inl (inr old) | inr same ↦ inr same ]
 
-in_old : {X : Type 0} (xs : List X) (x y : X) → IsIn y xs → IsIn y (xs ++ x ∷ [])
+pub in_old : {X : Type 0} (xs : List X) (x y : X) → IsIn y xs → IsIn y (xs ++ x ∷ [])
 in_old [] x y on = absurd on
 in_old (z ∷ zs) x y (inl same) = inl same
 in_old (z ∷ zs) x y (inr on) = inr (in_old zs x y on)
 
-in_last : {X : Type 0} (xs : List X) (x : X) → IsIn x (xs ++ x ∷ [])
+pub in_last : {X : Type 0} (xs : List X) (x : X) → IsIn x (xs ++ x ∷ [])
 in_last [] x = inl refl
 in_last (z ∷ zs) x = inr (in_last zs x)
 
-map_more : (acts : List CallAct) (a : CallAct) → map (λ (x : CallAct). x.req) (acts ++ a ∷ []) ≡ map (λ (x : CallAct). x.req) acts ++ a.req ∷ []
+pub map_more : (acts : List CallAct) (a : CallAct) → map (λ (x : CallAct). x.req) (acts ++ a ∷ []) ≡ map (λ (x : CallAct). x.req) acts ++ a.req ∷ []
 map_more [] a = refl
 map_more (b ∷ acts) a = ap (λ l. b.req ∷ l) (map_more acts a)
 
-once_more : (acts : List CallAct) (a : CallAct) → AreOnce acts → HasNoAct a.call acts → AreOnce (acts ++ a ∷ [])
+pub once_more : (acts : List CallAct) (a : CallAct) → AreOnce acts → HasNoAct a.call acts → AreOnce (acts ++ a ∷ [])
 once_more [] a once none = (λ x on. absurd on, tt)
 once_more (b ∷ acts) a once none = (
   λ x on same. elim (in_more acts a x on) [ inl old ↦ once.0 x old same | inr is ↦ none b (inl refl) (sym same ∙ ap (λ y. y.call) is) ],
@@ -60,7 +60,7 @@ pub numbers_stay : NumbersStay
 numbers_stay [] a call k e = absurd (cc)
 numbers_stay (b ∷ acts) a call k e = number_by (b.call == call) (number_of call acts) (number_of call (acts ++ a ∷ [])) k (λ j. numbers_stay acts a call j) e
 
-same_call : (a b : ℕ) → (a ≡ b) ⊎ (a ≢ b)
+pub same_call : (a b : ℕ) → (a ≡ b) ⊎ (a ≢ b)
 same_call a b = by (eqb a b) refl
   where
     by : (t : Bool) → eqb a b ≡ t → (a ≡ b) ⊎ (a ≢ b)
@@ -74,10 +74,10 @@ asking line req = Some (record { line = line; req = req })
 some_asked : (a b : Asking) → Some a ≡ Some b → a ≡ b
 some_asked a b e = cc
 
-one_asked : (i j : ℕ) (x y : Req) → asking i x ≡ asking j y → x ≡ y
+pub one_asked : (i j : ℕ) (x y : Req) → asking i x ≡ asking j y → x ≡ y
 one_asked i j x y e = ap (λ (a : Asking). a.req) (some_asked (record { line = i; req = x }) (record { line = j; req = y }) e)
 
-one_req : (d e : Option ℕ) (w v o p : ℕ) (x y : Req) → Some (Flight.Write d w o x) ≡ Some (Flight.Write e v p y) → x ≡ y
+pub one_req : (d e : Option ℕ) (w v o p : ℕ) (x y : Req) → Some (Flight.Write d w o x) ≡ Some (Flight.Write e v p y) → x ≡ y
 one_req d e w v o p x y is = cc
 
 one_reply : (e i op j : ℕ) (a b : Reply) → BaseReply.Wrote e op (BaseActed.Fresh a) ≡ BaseReply.Wrote i j (BaseActed.Fresh b) → (e ≡ i) × (op ≡ j)
@@ -86,7 +86,7 @@ one_reply e i op j a b is = (cc, cc)
 fresh_not_again : (s : NameState) (a b : Reply) → Fresh s a ≡ Again b → ⊥
 fresh_not_again s a b e = absurd (cc)
 
-free_not_write : (f : Option Flight) (d : Option ℕ) (w o : ℕ) (r : Req) → f ≡ None → f ≡ Some (Flight.Write d w o r) → ⊥
+pub free_not_write : (f : Option Flight) (d : Option ℕ) (w o : ℕ) (r : Req) → f ≡ None → f ≡ Some (Flight.Write d w o r) → ⊥
 free_not_write f d w o r free e = absurd (cc)
 
 -- ---- landing
@@ -101,18 +101,12 @@ landing_fits t l k driver owner op r b h w may =
 
 -- ---- a Write that acts
 
-pub acts_owned : ActsAreOwned
-acts_owned t l e op r s answer h w on same acts = (o, mine, owned.2, owned.3, owned.4, pending, after)
+-- it gives its act to a call that sent it
+pub acts_for : (t : Tier) (l : Ledger) (e op : ℕ) (r : Req) (s : NameState) (answer : Reply) (o : Owned) → IsSound t → SoundOwners t l → IsIn (BaseMsg.Write e op r) t.net.wire → e ≡ t.net.base_epoch
+    → act (state_of t.base r.name) r ≡ Fresh s answer → IsIn o l.owned → (o.epoch ≡ e) × (o.opid ≡ op) × (o.req ≡ r)
+    → IsOpen l o.call × SoundOwners (delivered (BaseMsg.Write e op r) t) (with_call_act (record { call = o.call; line = o.line; req = r; reply = answer }) l)
+acts_for t l e op r s answer o h w on same acts mine owned = (pending, after)
   where
-    owned : (o : Owned) × IsIn o l.owned × (o.epoch ≡ e) × (o.opid ≡ op) × (o.req ≡ r)
-    owned = w.known e op r on
-
-    o : Owned
-    o = owned.0
-
-    mine : IsIn o l.owned
-    mine = owned.1
-
     new : CallAct
     new = record { call = o.call; line = o.line; req = r; reply = answer }
 
@@ -124,14 +118,19 @@ acts_owned t l e op r s answer h w on same acts = (o, mine, owned.2, owned.3, ow
     not_spent (inl worn) = fresh_room (state_of t.base r.name) r s answer acts worn
     not_spent (inr covers) = covered_not_fresh (state_of t.base r.name) r s answer covers.0 acts
 
+    wired : IsIn (BaseMsg.Write o.epoch o.opid o.req) t.net.wire
+    wired =
+        subst (λ i. IsIn (BaseMsg.Write i o.opid o.req) t.net.wire) (sym owned.0)
+        (subst (λ i. IsIn (BaseMsg.Write e i o.req) t.net.wire) (sym owned.1) (subst (λ q. IsIn (BaseMsg.Write e op q) t.net.wire) (sym owned.2) on))
+
     pending : IsOpen l o.call
-    pending = elim (w.pending o mine (omega (arith, same, owned.2))) [
-      | inl spent ↦ absurd (not_spent (subst (λ x. IsSpent x.name (cell_of t x.name) t.net x) owned.4 spent))
+    pending = elim (w.pending o mine wired (omega (arith, same, owned.0))) [
+      | inl spent ↦ absurd (not_spent (subst (λ x. IsSpent x.name (cell_of t x.name) t.net x) owned.2 spent))
       | inr is ↦ is
     ]
 
     asked_r : l.asks o.call ≡ Some (record { line = o.line; req = r })
-    asked_r = w.asked o mine ∙ ap {A = Req} {B = Option Asking} (λ x. Some (record { line = o.line; req = x })) owned.4
+    asked_r = w.asked o mine ∙ ap {A = Req} {B = Option Asking} (λ x. Some (record { line = o.line; req = x })) owned.2
 
     next : Net
     next = record t.net { replies = BaseReply.Wrote e op (BaseActed.Fresh answer) ∷ t.net.replies }
@@ -177,8 +176,8 @@ acts_owned t l e op r s answer h w on same acts = (o, mine, owned.2, owned.3, ow
     same_asked : (call : ℕ) (i j : ℕ) (x y : Req) → l.asks call ≡ Some (record { line = i; req = x }) → l.asks call ≡ Some (record { line = j; req = y }) → x ≡ y
     same_asked call i j x y a b = one_asked i j x y (sym a ∙ b)
 
-    open_still : (p : Owned) → IsIn p l.owned → t.net.base_epoch ≤ p.epoch → IsSpent p.req.name (cell_of done p.req.name) next p.req ⊎ IsOpen more p.call
-    open_still p is above = elim (w.pending p is above) [
+    open_still : (p : Owned) → IsIn p l.owned → IsIn (BaseMsg.Write p.epoch p.opid p.req) t.net.wire → t.net.base_epoch ≤ p.epoch → IsSpent p.req.name (cell_of done p.req.name) next p.req ⊎ IsOpen more p.call
+    open_still p is there above = elim (w.pending p is there above) [
       | inl spent ↦ inl (spent_still p.req.name p.req spent)
       | inr free ↦ elim (same_call p.call o.call) [
         | inl one ↦
@@ -235,7 +234,7 @@ acts_owned t l e op r s answer h w on same acts = (o, mine, owned.2, owned.3, ow
         told_new : (given : Reply) → BaseReply.Wrote t.net.cache_epoch j (BaseActed.Fresh given) ≡ BaseReply.Wrote e op (BaseActed.Fresh answer) → (a : CallAct) × IsIn a more.acts × (a.call ≡ owner)
         told_new given this =
             let is = one_reply t.net.cache_epoch e j op given answer this in
-            (new, in_last l.acts new, old.own o mine (owned.2 ∙ sym is.0) (owned.3 ∙ sym is.1))
+            (new, in_last l.acts new, old.own o mine (owned.0 ∙ sym is.0) (owned.1 ∙ sym is.1))
 
     sound : SoundOwners done more
     sound = record {
@@ -243,6 +242,7 @@ acts_owned t l e op r s answer h w on same acts = (o, mine, owned.2, owned.3, ow
       known = w.known;
       asked = w.asked;
       given = λ p is. let g = w.given p is in record { begun = g.begun; silent = g.silent; counted = g.counted };
+      reached = w.reached;
       acted = λ a among. elim (in_more l.acts new a among) [
         | inl before ↦ w.acted a before
         | inr last ↦ subst (λ x. l.asks x.call ≡ Some (record { line = x.line; req = x.req })) (sym last) asked_r
@@ -261,6 +261,12 @@ acts_owned t l e op r s answer h w on same acts = (o, mine, owned.2, owned.3, ow
         wrote : Acted → Served
         wrote a = record { epoch = t.net.base_epoch; put = put_by a; reply = BaseReply.Wrote e op (told_of a) }
 
+pub acts_owned : ActsAreOwned
+acts_owned t l e op r s answer h w on same acts =
+    let owned = w.known e op r on in
+    let g = acts_for t l e op r s answer owned.0 h w on same acts owned.1 (owned.2, owned.3, owned.4) in
+    (owned.0, owned.1, owned.2, owned.3, owned.4, g.0, g.1)
+
 -- ---- quiet moves
 
 pub quiet_keeps : QuietKeeps
@@ -269,9 +275,10 @@ quiet_keeps t u l w q = record {
   known = λ e op r on. w.known e op r (q.wire (BaseMsg.Write e op r) on);
   asked = w.asked;
   given = λ o is. q.given o.epoch o.opid (w.given o is);
+  reached = λ o is. omega (arith, w.reached o is, q.later);
   acted = w.acted;
   once = w.once;
-  pending = λ o is above. elim (w.pending o is (omega (arith, above, q.later))) [ inl spent ↦ inl (spent_still o.req.name o.req spent) | inr free ↦ inr free ];
+  pending = λ o is on above. elim (w.pending o is (q.wire (BaseMsg.Write o.epoch o.opid o.req) on) (omega (arith, above, q.later))) [ inl spent ↦ inl (spent_still o.req.name o.req spent) | inr free ↦ inr free ];
   writing = λ n driver owner op r f. writing n driver owner op r f (q.writing n driver owner op r f);
 }
   where

@@ -81,11 +81,15 @@ pub record SoundOwners (t : Tier) (l : Ledger) : Type 0 where
       → (o : Owned) × IsIn o l.owned × (o.epoch ≡ e) × (o.opid ≡ op) × (o.req ≡ r)
   pub asked : (o : Owned) → IsIn o l.owned → l.asks o.call ≡ Some (record { line = o.line; req = o.req })
   pub given : (o : Owned) → IsIn o l.owned → IsGiven t.net o.epoch o.opid
+  -- each was sent in an epoch that the base had been told of
+  pub reached : (o : Owned) → IsIn o l.owned → o.epoch ≤ t.net.base_epoch
   -- each act is its call's request, and the call's one act
   pub acted : (a : CallAct) → IsIn a l.acts → l.asks a.call ≡ Some (record { line = a.line; req = a.req })
   pub once : AreOnce l.acts
-  -- a Write that the base would take is spent, or its owner has no act and was not answered for good
-  pub pending : (o : Owned) → IsIn o l.owned → t.net.base_epoch ≤ o.epoch
+  -- a Write on the wire that the base would take is spent, or its owner has no act and was not
+  -- answered for good
+  pub pending : (o : Owned) → IsIn o l.owned → IsIn (BaseMsg.Write o.epoch o.opid o.req) t.net.wire
+      → t.net.base_epoch ≤ o.epoch
       → IsSpent o.req.name (cell_of t o.req.name) t.net o.req ⊎ IsOpen l o.call
   pub writing : (n : Name) (driver : Option ℕ) (owner op : ℕ) (r : Req)
       → (cell_of t n).flight ≡ Some (Flight.Write driver owner op r) → SoundWriting t l n owner op r

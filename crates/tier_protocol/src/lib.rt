@@ -10,6 +10,7 @@
 mod answers;
 mod doubts;
 mod fitting;
+mod memory_laws;
 mod moves;
 mod owning;
 
@@ -20,6 +21,11 @@ pub use answers::{
 };
 pub use doubts::{cache_doubt_keeps, doubt_keeps, epoch_doubt_keeps, worlds_go_on};
 pub use fitting::{flushes_clean, promotions_go_on, starts_are_up, writes_land};
+pub use memory_laws::{
+    answering_keeps_memory, ending_keeps_memory, gathering_keeps_memory, going_up_keeps_memory,
+    losing_keeps_memory, raising_keeps_memory, replying_keeps_memory, starting_keeps_memory,
+    starting_memory, stopping_keeps_memory, telling_keeps_memory,
+};
 pub use moves::{
     acting_keeps, base_alone, beginning_keeps, cleaning_keeps, counting_keeps, delivering_keeps,
     each_stands, evicting_keeps, filling_keeps, finding_keeps, found_is_sound, gathering_keeps,

@@ -1,0 +1,6 @@
+pub mod Spent
+pub mod Quiets
+pub mod Sending
+pub mod Acting
+pub mod Closing
+pub mod Running
