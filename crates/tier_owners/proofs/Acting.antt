@@ -106,7 +106,7 @@ acting_owned t l rec r s answer moment call line h w may asked free = record {
         → IsSpent o.req.name (cell_of done o.req.name) t.net o.req ⊎ IsOpen (with_call_act new l) o.call
     pending o is on above = elim (w.pending o is on above) [
       | inl spent ↦ inl (still o.req.name o.req spent)
-      | inr open ↦ elim (same_call call o.call) [
+      | inr free ↦ elim (same_call call o.call) [
         | inl one ↦
             let req : o.req ≡ r = asked_once o.call o.line o.req (w.asked o is) one in
             inl (still o.req.name o.req
@@ -115,8 +115,8 @@ acting_owned t l rec r s answer moment call line h w may asked free = record {
             ((h.names r.name).writes o.epoch o.opid r
             (subst (λ x. IsIn (BaseMsg.Write o.epoch o.opid x) t.net.wire) req on) refl above))))
         | inr two ↦ inr (λ a among at. elim (in_more l.acts new a among) [
-            | inl old ↦ open.0 a old at
+            | inl old ↦ free.0 a old at
             | inr last ↦ two (sym (ap (λ y. y.call) last) ∙ at)
-          ], open.1)
+          ], free.1)
       ]
     ]

@@ -81,7 +81,7 @@ closing_owned t l call w may = record {
     | inl one ↦ inl (may.spent o is one on above)
     | inr two ↦ elim (w.pending o is on above) [
       | inl spent ↦ inl spent
-      | inr open ↦ inr (open.0, closed_other l call o.call two open.1)
+      | inr free ↦ inr (free.0, closed_other l call o.call two free.1)
     ]
   ];
   writing = λ n d owner op r f. let x = w.writing n d owner op r f in record {

@@ -3,4 +3,6 @@ pub mod Quiets
 pub mod Sending
 pub mod Acting
 pub mod Closing
-pub mod Running
+pub mod Keeping
+pub mod Histories
+pub mod Faithful

@@ -162,7 +162,7 @@ writing_owned t l e op r driver owner line h w now f asked = record {
     given : IsGiven t.net e op
     given = record {
       begun = omega (arith, now);
-      silent = λ raised. absurd (cc);
+      silent = λ raised. let is = up in absurd (cc);
       counted = λ same. ((h.memory.each r.name).counted op has).1;
     }
 

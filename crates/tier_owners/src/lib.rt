@@ -8,10 +8,15 @@
 #![tactic(auto)]
 
 mod owning;
+mod running;
 
 pub use owning::{
     acting_keeps_owners, answered_here_may_close, asking_keeps_owners, beginning_keeps_owners,
     closing_keeps_owners, counting_keeps_owners, delivering_keeps_owners, found_is_owned,
     landed_may_close, readers_may_close, sending_keeps_owners, unsent_may_close,
     writing_keeps_owners,
+};
+pub use running::{
+    closed_act_no_more, history_grows, legal_act_once, moves_keep, runs_are_faithful, runs_keep,
+    taken_is_lost,
 };

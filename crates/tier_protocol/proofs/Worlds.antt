@@ -17,7 +17,7 @@ use Rattle.tier_protocol.proofs.Delivers.{delivering}
 use Rattle.tier_protocol.proofs.Steps.{acting, cleaning, evicting, finding, going_up, leaving, losing, promoting, stopping}
 
 -- all of the work is left
-left_whole : (f : Option Flight) → IsLeftOf f f
+pub left_whole : (f : Option Flight) → IsLeftOf f f
 left_whole None = refl
 left_whole (Some (Flight.Promote call o gather ask)) = refl
 left_whole (Some (Flight.Write driver owner o r)) = (driver, refl)

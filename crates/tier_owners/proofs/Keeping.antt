@@ -1,7 +1,7 @@
 -- Each move keeps what holds, and so does each run.
 use Rattle.std.proofs.Common.{◌≡◌, ◌≢◌, ◌<◌, ◌≤◌, ◌⊎◌, ℕ, Bool, true, false, List, [], ◌∷◌, ◌++◌, map, Option, Some, None, refl, sym, ap, subst, ◌∙◌, arith, inl, inr}
 use Rattle.obj_model.specs.declared.req.Req.{Req}
-use Rattle.tier_protocol.specs.Tiers.{Name, Tier, BaseMsg, IsIn, cell_of}
+use Rattle.tier_protocol.specs.Tiers.{Flight, Tier, BaseMsg, IsIn}
 use Rattle.tier_protocol.specs.Sound.{IsSound}
 use Rattle.tier_protocol.specs.Moves.{delivered, filled}
 use Rattle.tier_protocol.specs.Owners.{CallAct, Ledger, Quiet, SoundOwners}
@@ -9,7 +9,7 @@ use Rattle.tier_protocol.proofs.Delivers.{delivering, filling}
 use Rattle.tier_protocol.proofs.Owners.{acts_for, in_more, losses_quiet, quiet_keeps}
 use Rattle.tier_protocol.proofs.Steps.{acting, beginning, cleaning, counting, evicting, finding, gathering, going_up, landing, losing, promoting, raising, sending, stopping}
 use Rattle.tier_owners.specs.Moving.{IsHeld, IsRun, MayActThere, Moves, System, with_tier, delivers, acts_there, fills, acts_here, gathers, promotes, cleans, drains, evicts, begins_write, begins, sends_write, sends, lands, loses, stops_cache, stops_base, raises, finds, counts, goes_up, asks, closes}
-use Rattle.tier_owners.specs.Runs.{ClosedActNoMore, GoesOn, HistoryGrows, MovesKeep, RunsKeep}
+use Rattle.tier_owners.specs.Runs.{MovesKeep, RunsKeep}
 use Rattle.tier_owners.proofs.Acting.{acting_owned}
 use Rattle.tier_owners.proofs.Closing.{asking_owned, closing_owned}
 use Rattle.tier_owners.proofs.Quiets.{counting_keeps, quiet_at, quiet_begun, quiet_found, quiet_held, quiet_raised, quiet_rec, quiet_replied, quiet_same, quiet_up}
@@ -37,11 +37,14 @@ moves_keep s u h (acts_here rec r state answer moment call line may asked free) 
   owners = acting_owned s.tier s.ledger rec r state answer moment call line h.sound h.owners may asked free;
 }
 moves_keep s u h (gathers k call op gather ask x may) =
-    quietly s _ h (gathering s.tier k call op gather ask x h.sound may) (quiet_at s.tier k _ refl)
+    quietly s _ h (gathering s.tier k call op gather ask x h.sound may)
+    (quiet_at s.tier k (Some (Flight.Promote call op (gather ++ x ∷ []) ask)) refl)
 moves_keep s u h (promotes k call op gather ask state moment may) =
-    quietly s _ h (promoting s.tier k call op gather ask state moment h.sound may).0 (quiet_held s.tier k _)
+    quietly s _ h (promoting s.tier k call op gather ask state moment h.sound may).0
+    (quiet_held s.tier k (Some (record { state = state; dirty = false; mtime = moment })))
 moves_keep s u h (cleans k call op seq m blocking drain rec may) =
-    quietly s _ h (cleaning s.tier k call op seq m blocking drain rec h.sound may).0 (quiet_held s.tier k _)
+    quietly s _ h (cleaning s.tier k call op seq m blocking drain rec h.sound may).0
+    (quiet_held s.tier k (Some (record rec { dirty = false })))
 moves_keep s u h (drains k call op seq m blocking drain rec may) =
     quietly s _ h (cleaning s.tier k call op seq m blocking drain rec h.sound may).1 (quiet_held s.tier k None)
 moves_keep s u h (evicts k may) =
@@ -77,7 +80,7 @@ moves_keep s u h (counts may) = record {
   owners = counting_keeps s.tier s.ledger h.sound h.owners may;
 }
 moves_keep s u h (goes_up may) = quietly s _ h (going_up s.tier h.sound may).0 (quiet_up s.tier)
-moves_keep s u h (asks call a none open) = record {
+moves_keep s u h (asks call a none fresh) = record {
   sound = h.sound;
   owners = asking_owned s.tier s.ledger call a h.owners none;
 }
@@ -95,67 +98,3 @@ run_keeps (v ∷ us) s h run u (inr on) = run_keeps us v (moves_keep s v h run.0
 
 pub runs_keep : RunsKeep
 runs_keep s us h run u on = run_keeps us s h run u on
-
--- ---- the history goes on
-
-all_of : {X : Type 0} (xs : List X) → xs ≡ xs ++ []
-all_of [] = refl
-all_of (x ∷ xs) = ap (λ l. x ∷ l) (all_of xs)
-
-join : {X : Type 0} (xs ys zs : List X) → (xs ++ ys) ++ zs ≡ xs ++ (ys ++ zs)
-join [] ys zs = refl
-join (x ∷ xs) ys zs = ap (λ l. x ∷ l) (join xs ys zs)
-
--- no act comes
-stays : (s u : System) → u.tier.opening ≡ s.tier.opening → u.ledger.acts ≡ s.ledger.acts → GoesOn s u
-stays s u opening acts = record { opening = opening; more = []; acts = acts ∙ all_of s.ledger.acts }
-
-pub goes_on : (s u : System) → Moves s u → GoesOn s u
-goes_on s u (delivers m on none) = stays s (with_tier s (delivered m s.tier)) refl refl
-goes_on s u (acts_there e op r state answer o may) =
-    record { opening = refl; more = record { call = o.call; line = o.line; req = r; reply = answer } ∷ []; acts = refl }
-goes_on s u (fills m used need limit may) = record { opening = refl; more = []; acts = all_of s.ledger.acts }
-goes_on s u (acts_here rec r state answer moment call line may asked free) =
-    record { opening = refl; more = record { call = call; line = line; req = r; reply = answer } ∷ []; acts = refl }
-goes_on s u (gathers k call op gather ask x may) =
-    record { opening = refl; more = []; acts = all_of s.ledger.acts }
-goes_on s u (promotes k call op gather ask state moment may) =
-    record { opening = refl; more = []; acts = all_of s.ledger.acts }
-goes_on s u (cleans k call op seq m blocking drain rec may) =
-    record { opening = refl; more = []; acts = all_of s.ledger.acts }
-goes_on s u (drains k call op seq m blocking drain rec may) =
-    record { opening = refl; more = []; acts = all_of s.ledger.acts }
-goes_on s u (evicts k may) = record { opening = refl; more = []; acts = all_of s.ledger.acts }
-goes_on s u (begins_write k driver owner op line r up may asked free) =
-    record { opening = refl; more = []; acts = all_of s.ledger.acts }
-goes_on s u (begins k f up may idle) = record { opening = refl; more = []; acts = all_of s.ledger.acts }
-goes_on s u (sends_write op r driver owner line f asked) =
-    record { opening = refl; more = []; acts = all_of s.ledger.acts }
-goes_on s u (sends m may plain) = record { opening = refl; more = []; acts = all_of s.ledger.acts }
-goes_on s u (lands k driver owner op r a may) =
-    record { opening = refl; more = []; acts = all_of s.ledger.acts }
-goes_on s u (loses t may) =
-    record { opening = ap (λ x. x.opening) may.same; more = []; acts = all_of s.ledger.acts }
-goes_on s u stops_cache = record { opening = refl; more = []; acts = all_of s.ledger.acts }
-goes_on s u stops_base = record { opening = refl; more = []; acts = all_of s.ledger.acts }
-goes_on s u (raises e may) = record { opening = refl; more = []; acts = all_of s.ledger.acts }
-goes_on s u (finds e may) = record { opening = refl; more = []; acts = all_of s.ledger.acts }
-goes_on s u (counts may) = record { opening = refl; more = []; acts = all_of s.ledger.acts }
-goes_on s u (goes_up may) = record { opening = refl; more = []; acts = all_of s.ledger.acts }
-goes_on s u (asks call a none open) = record { opening = refl; more = []; acts = all_of s.ledger.acts }
-goes_on s u (closes call may) = record { opening = refl; more = []; acts = all_of s.ledger.acts }
-
-goes_further : (s v u : System) → GoesOn s v → GoesOn v u → GoesOn s u
-goes_further s v u first second = record {
-  opening = second.opening ∙ first.opening;
-  more = first.more ++ second.more;
-  acts = second.acts ∙ ap (λ l. l ++ second.more) first.acts ∙ join s.ledger.acts first.more second.more;
-}
-
-run_grows : (us : List System) (s : System) → IsRun s us → (u : System) → IsIn u us → GoesOn s u
-run_grows [] s run u on = absurd on
-run_grows (v ∷ us) s run u (inl same) = subst (GoesOn s) (sym same) (goes_on s v run.0)
-run_grows (v ∷ us) s run u (inr on) = goes_further s v u (goes_on s v run.0) (run_grows us v run.1 u on)
-
-pub history_grows : HistoryGrows
-history_grows s us run u on = run_grows us s run u on
