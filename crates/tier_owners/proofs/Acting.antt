@@ -26,7 +26,8 @@ acting_owned t l rec r s answer moment call line h w may asked free = record {
   reached = w.reached;
   acted = λ a among. elim (in_more l.acts new a among) [
     | inl before ↦ w.acted a before
-    | inr last ↦ subst (λ x. l.asks x.call ≡ Some (record { line = x.line; req = x.req })) (sym last) asked
+    | inr last ↦ subst (λ x. l.asks x.call ≡ Some (record { line = x.line; req = x.req }))
+        (sym last) asked
   ];
   once = once_more l.acts new w.once free.0;
   pending = pending;
@@ -62,7 +63,8 @@ acting_owned t l rec r s answer moment call line h w may asked free = record {
         ∙ ap {A = Cell} {B = Cell} (λ c. record c { rec = Some v }) (act_here t r s answer on_plain)
 
     there : (n : Name) → n ≢ r.name → cell_of done n ≡ cell_of t n
-    there n ne = rec_there (with_act r t) r.name (Some v) n ne ∙ act_there t r s answer n on_plain ne
+    there n ne = rec_there (with_act r t) r.name (Some v) n ne
+        ∙ act_there t r s answer n on_plain ne
 
     has_rec : (cell_of t r.name).rec ≡ None → ⊥
     has_rec none = let e = may.rec in absurd (cc)
@@ -77,7 +79,8 @@ acting_owned t l rec r s answer moment call line h w may asked free = record {
     asked_once : (owner i : ℕ) (q : Req) → l.asks owner ≡ Some (record { line = i; req = q })
         → call ≡ owner → q ≡ r
     asked_once owner i q e is =
-        one_asked i line q r (sym e ∙ subst (λ c. l.asks c ≡ Some (record { line = line; req = r })) is asked)
+        one_asked i line q r (sym e ∙ subst (λ c. l.asks c ≡ Some
+        (record { line = line; req = r })) is asked)
 
     -- no write request under way is of this request, whose name has a record
     other : (n : Name) (d : Option ℕ) (owner op : ℕ) (q : Req)
@@ -87,7 +90,8 @@ acting_owned t l rec r s answer moment call line h w may asked free = record {
         no_write d owner op q
         (subst (λ m. (cell_of t m).flight ≡ Some (Flight.Write d owner op q)) at f)
 
-    still : (n : Name) (q : Req) → IsSpent n (cell_of t n) t.net q → IsSpent n (cell_of done n) t.net q
+    still : (n : Name) (q : Req) → IsSpent n (cell_of t n) t.net q
+        → IsSpent n (cell_of done n) t.net q
     still n q spent = elim (same_or_not n r.name) [
       | inl is ↦
           subst (λ m. IsSpent m (cell_of done m) t.net q) (sym is)
@@ -99,11 +103,17 @@ acting_owned t l rec r s answer moment call line h w may asked free = record {
         still_here : (q : Req) → IsSpent r.name (cell_of t r.name) t.net q
             → IsSpent r.name (record (cell_of t r.name) { rec = Some v; plain = s }) t.net q
         still_here q (inl worn) = inl worn
-        still_here q (inr k) = inr (k.0, covers_stays (cell_of t r.name).plain q r s answer k.1 on_plain, k.2)
+        still_here q (inr k) = inr (
+          k.0,
+          covers_stays
+              (cell_of t r.name).plain q r s answer k.1 on_plain,
+          k.2,
+        )
 
     pending : (o : Owned) → IsIn o l.owned → IsIn (BaseMsg.Write o.epoch o.opid o.req) t.net.wire
         → t.net.base_epoch ≤ o.epoch
-        → IsSpent o.req.name (cell_of done o.req.name) t.net o.req ⊎ IsOpen (with_call_act new l) o.call
+        → IsSpent o.req.name (cell_of done o.req.name) t.net o.req
+        ⊎ IsOpen (with_call_act new l) o.call
     pending o is on above = elim (w.pending o is on above) [
       | inl spent ↦ inl (still o.req.name o.req spent)
       | inr free ↦ elim (same_call call o.call) [
@@ -111,12 +121,16 @@ acting_owned t l rec r s answer moment call line h w may asked free = record {
             let req : o.req ≡ r = asked_once o.call o.line o.req (w.asked o is) one in
             inl (still o.req.name o.req
             (subst (λ x. IsSpent x.name (cell_of t x.name) t.net x) (sym req)
-            (spent_over_record t r h may.up has_rec (λ living. no_write living.0 living.1 living.2 r living.3)
+            (spent_over_record t r h may.up has_rec
+            (λ living. no_write living.0 living.1 living.2 r living.3)
             ((h.names r.name).writes o.epoch o.opid r
             (subst (λ x. IsIn (BaseMsg.Write o.epoch o.opid x) t.net.wire) req on) refl above))))
-        | inr two ↦ inr (λ a among at. elim (in_more l.acts new a among) [
+        | inr two ↦ inr (
+          λ a among at. elim (in_more l.acts new a among) [
             | inl old ↦ free.0 a old at
             | inr last ↦ two (sym (ap (λ y. y.call) last) ∙ at)
-          ], free.1)
+          ],
+          free.1,
+        )
       ]
     ]

@@ -36,21 +36,25 @@ found_owned recs base plain e f = record {
 }
 
 -- what another call asked stays
-asked_other : (l : Ledger) (call c : ℕ) (new old : Asking) → l.asks call ≡ None → l.asks c ≡ Some old
+asked_other : (l : Ledger) (call c : ℕ) (new old : Asking) → l.asks call ≡ None
+    → l.asks c ≡ Some old
     → (if c == call then Some new else l.asks c) ≡ Some old
 asked_other l call c new old none e =
     ap (λ b. if b then Some new else l.asks c)
-    (ne_eqb c call (λ same. let g : l.asks call ≡ Some old = subst (λ x. l.asks x ≡ Some old) same e in absurd (cc)))
+    (ne_eqb c call (λ same. let g : l.asks call ≡ Some old = subst
+    (λ x. l.asks x ≡ Some old) same e in absurd (cc)))
     ∙ e
 
 pub asking_owned : AskingKeepsOwners
 asking_owned t l call new w none = record {
   same = w.same;
   known = w.known;
-  asked = λ o is. asked_other l call o.call new (record { line = o.line; req = o.req }) none (w.asked o is);
+  asked = λ o is. asked_other l call o.call new (record { line = o.line; req = o.req }) none
+      (w.asked o is);
   given = w.given;
   reached = w.reached;
-  acted = λ a is. asked_other l call a.call new (record { line = a.line; req = a.req }) none (w.acted a is);
+  acted = λ a is. asked_other l call a.call new (record { line = a.line; req = a.req }) none
+      (w.acted a is);
   once = w.once;
   pending = w.pending;
   writing = λ n d owner op r f. let x = w.writing n d owner op r f in record {
@@ -88,7 +92,8 @@ closing_owned t l call w may = record {
     line = x.line;
     asked = x.asked;
     pending = closed_other l call owner
-        (λ is. may.idle n d op r (subst (λ c. (cell_of t n).flight ≡ Some (Flight.Write d c op r)) is f)) x.pending;
+        (λ is. may.idle n d op r (subst (λ c. (cell_of t n).flight ≡ Some
+        (Flight.Write d c op r)) is f)) x.pending;
     acted = x.acted;
     own = x.own;
     told = x.told;
@@ -109,7 +114,8 @@ asked_name : (t : Tier) (l : Ledger) (call line : ℕ) (r : Req) → IsSound t �
     → (cell_of t n).flight ≡ Some (Flight.Write d call op q) → n ≡ r.name
 asked_name t l call line r h w asked n d op q f =
     let x = w.writing n d call op q f in
-    sym ((h.memory.each n).named d call op q f) ∙ ap (λ y. y.name) (one_asked x.line line q r (sym x.asked ∙ asked))
+    sym ((h.memory.each n).named d call op q f) ∙ ap (λ y. y.name) (one_asked x.line line q r
+    (sym x.asked ∙ asked))
 
 pub landed_closes : LandedMayClose
 landed_closes t l k driver owner op r b h w may = record { idle = idle; spent = spent }
@@ -153,7 +159,8 @@ landed_closes t l k driver owner op r b h w may = record { idle = idle; spent = 
     spent o is mine on above =
         let req : o.req ≡ r =
         one_asked o.line this.line o.req r
-        (sym (w.asked o is) ∙ subst (λ c. l.asks c ≡ Some (record { line = this.line; req = r })) (sym mine) this.asked) in
+        (sym (w.asked o is) ∙ subst (λ c. l.asks c ≡ Some (record { line = this.line; req = r }))
+        (sym mine) this.asked) in
         subst (λ x. IsSpent x.name (cell_of (landed k t) x.name) t.net x) (sym req)
         (subst (λ m. IsSpent m (cell_of (landed k t) m) t.net r) (sym named) (free r here))
 
@@ -166,7 +173,8 @@ answered_here_closes t l call line r rec h w up asked has = record {
   spent = λ o is mine on above.
       let req : o.req ≡ r =
       one_asked o.line line o.req r
-      (sym (w.asked o is) ∙ subst (λ c. l.asks c ≡ Some (record { line = line; req = r })) (sym mine) asked) in
+      (sym (w.asked o is) ∙ subst (λ c. l.asks c ≡ Some (record { line = line; req = r }))
+      (sym mine) asked) in
       subst (λ x. IsSpent x.name (cell_of t x.name) t.net x) (sym req)
       (spent_over_record t r h up has_rec
       (λ living. has_rec ((h.names r.name).bare (ap is_bare living.3)))
@@ -192,7 +200,8 @@ unsent_closes t l call line r w asked idle unsent h = record {
       let at : n ≡ r.name = asked_name t l call line r h w asked n d op q f in
       let g : (cell_of t r.name).flight ≡ Some (Flight.Write d call op q) =
       subst (λ m. (cell_of t m).flight ≡ Some (Flight.Write d call op q)) at f in
-      let e : is_write (Some (Flight.Write d call op q)) ≡ false = subst (λ x. is_write x ≡ false) g idle in
+      let e : is_write (Some (Flight.Write d call op q)) ≡ false = subst
+      (λ x. is_write x ≡ false) g idle in
       absurd (cc);
   spent = λ o is mine on above. absurd (unsent o is mine);
 }

@@ -1,4 +1,5 @@
--- From the attachment of a pair on, in every moment of every run, it is faithful to the plain store.
+-- From the attachment of a pair on, in every moment of every run, it is faithful to the plain
+-- store.
 use Rattle.std.proofs.Common.{◌≡◌, ◌<◌, ◌≤◌, ℕ, List, ◌∷◌, refl, sym, subst, inl, inr}
 use Rattle.obj_ops.specs.Stores.{Store}
 use Rattle.tier_protocol.specs.Tiers.{BaseMsg, Recs, Tier, IsIn, cell_of}

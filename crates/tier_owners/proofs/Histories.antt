@@ -1,4 +1,5 @@
--- What moves do to the history: it grows, by acts of calls that are open, and no request id acts twice.
+-- What moves do to the history: it grows, by acts of calls that are open, and no request id acts
+-- twice.
 use Rattle.std.proofs.Common.{◌≡◌, ◌≢◌, ◌⊎◌, ℕ, Bool, true, false, List, [], ◌∷◌, ◌++◌, Some, unwrap_or, refl, sym, ap, subst, ◌∙◌, arith, inl, inr}
 use Rattle.std.specs.Prelude.{if◌then◌else◌, ◌==◌}
 use Rattle.obj_model.specs.States.{unknown}
@@ -109,7 +110,8 @@ further : (s v u : System) → GoesOn s v → GoesOn v u → GoesOn s u
 further s v u first second = record {
   opening = second.opening ∙ first.opening;
   more = first.more ++ second.more;
-  acts = second.acts ∙ ap (λ l. l ++ second.more) first.acts ∙ join s.ledger.acts first.more second.more;
+  acts = second.acts ∙ ap (λ l. l ++ second.more) first.acts
+      ∙ join s.ledger.acts first.more second.more;
 }
 
 run_grows : (us : List System) (s : System) → IsRun s us → (u : System) → IsIn u us → GoesOn s u
@@ -145,7 +147,8 @@ run_closed (v ∷ us) s call h run shut u (inl same) a is mine =
     one_closed s v call h (effect s v run.0) shut a (subst (λ x. IsIn a x.ledger.acts) same is) mine
 run_closed (v ∷ us) s call h run shut u (inr on) a is mine =
     one_closed s v call h (effect s v run.0) shut a
-    (run_closed us v call (moves_keep s v h run.0) run.1 ((effect s v run.0).closed call shut) u on a is mine)
+    (run_closed us v call (moves_keep s v h run.0) run.1
+    ((effect s v run.0).closed call shut) u on a is mine)
     mine
 
 pub closed_act_no_more : ClosedActNoMore
@@ -154,7 +157,8 @@ closed_act_no_more s us call h run shut u on a is mine = run_closed us s call h 
 -- ---- request ids
 
 -- what is behind a front of a legal history is legal on what the front leaves
-legal_behind : (xs ys : List Req) (store : Store) → AreFresh store (xs ++ ys) → AreFresh (replay store xs) ys
+legal_behind : (xs ys : List Req) (store : Store) → AreFresh store (xs ++ ys)
+    → AreFresh (replay store xs) ys
 legal_behind [] ys store h = h
 legal_behind (x ∷ xs) ys store h =
     legal_behind xs ys (store_after store x.name (act (state_of store x.name) x)) h.1
@@ -166,7 +170,8 @@ past_not_fresh (Stale kept) past fresh = absurd (cc)
 past_not_fresh (Worn limit) past fresh = absurd (cc)
 
 -- where a request acted its tid is kept
-acted_has : (store : Store) (r : Req) (a : Acted) → act (state_of store r.name) r ≡ a → is_fresh a ≡ true
+acted_has : (store : Store) (r : Req) (a : Acted) → act (state_of store r.name) r ≡ a
+    → is_fresh a ≡ true
     → HasTid r.tid (kept_of r.client (state_of (store_after store r.name a) r.name).seen)
 acted_has store r (Fresh t reply) e fresh =
     subst (λ s. HasTid r.tid (kept_of r.client s.seen))
@@ -179,7 +184,8 @@ acted_has store r (Worn limit) e fresh = absurd (cc)
 twice : (store : Store) (between behind : List Req) (r q : Req)
     → AreFresh store (r ∷ (between ++ q ∷ behind)) → HaveOneId r q → ⊥
 twice store between behind r q h one =
-    past_not_fresh (act (state_of later q.name) q) covers (legal_behind between (q ∷ behind) first h.1).0
+    past_not_fresh (act (state_of later q.name) q) covers (legal_behind between
+    (q ∷ behind) first h.1).0
   where
     first : Store
     first = store_after store r.name (act (state_of store r.name) r)

@@ -46,9 +46,11 @@ moves_keep s u h (cleans k call op seq m blocking drain rec may) =
     quietly s _ h (cleaning s.tier k call op seq m blocking drain rec h.sound may).0
     (quiet_held s.tier k (Some (record rec { dirty = false })))
 moves_keep s u h (drains k call op seq m blocking drain rec may) =
-    quietly s _ h (cleaning s.tier k call op seq m blocking drain rec h.sound may).1 (quiet_held s.tier k None)
+    quietly s _ h (cleaning s.tier k call op seq m blocking drain rec h.sound may).1
+    (quiet_held s.tier k None)
 moves_keep s u h (evicts k may) =
-    quietly s _ h (evicting s.tier k h.sound may) (quiet_rec s.tier s.tier k None (quiet_same s.tier))
+    quietly s _ h (evicting s.tier k h.sound may) (quiet_rec s.tier s.tier k None
+    (quiet_same s.tier))
 moves_keep s u h (begins_write k driver owner op line r up may asked free) = record {
   sound = beginning s.tier k _ h.sound up may;
   owners = beginning_owned s.tier s.ledger k driver owner op line r h.sound h.owners may asked free;
@@ -56,7 +58,10 @@ moves_keep s u h (begins_write k driver owner op line r up may asked free) = rec
 moves_keep s u h (begins k f up may idle) =
     quietly s _ h (beginning s.tier k f h.sound up may) (quiet_begun s.tier k f idle)
 moves_keep s u h (sends_write op r driver owner line f asked) = record {
-  sound = sending s.tier (BaseMsg.Write s.tier.net.cache_epoch op r) h.sound (refl, (driver, owner, f));
+  sound = sending s.tier (BaseMsg.Write s.tier.net.cache_epoch op r) h.sound (
+    refl,
+    (driver, owner, f),
+  );
   owners = writing_owned s.tier s.ledger s.tier.net.cache_epoch op r driver owner line h.sound h.owners refl f asked;
 }
 moves_keep s u h (sends m may plain) = record {
@@ -91,7 +96,8 @@ moves_keep s u h (closes call may) = record {
 
 -- ---- runs
 
-run_keeps : (us : List System) (s : System) → IsHeld s → IsRun s us → (u : System) → IsIn u us → IsHeld u
+run_keeps : (us : List System) (s : System) → IsHeld s → IsRun s us → (u : System) → IsIn u us
+    → IsHeld u
 run_keeps [] s h run u on = absurd on
 run_keeps (v ∷ us) s h run u (inl same) = subst IsHeld (sym same) (moves_keep s v h run.0)
 run_keeps (v ∷ us) s h run u (inr on) = run_keeps us v (moves_keep s v h run.0) run.1 u on

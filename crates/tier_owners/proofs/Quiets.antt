@@ -1,4 +1,5 @@
--- Moves that are quiet: they leave the base's states and the history, send nothing, and begin no write.
+-- Moves that are quiet: they leave the base's states and the history, send nothing, and begin no
+-- write.
 use Rattle.std.proofs.Common.{◌≡◌, ◌≢◌, ◌<◌, ◌≤◌, ◌⊎◌, ℕ, ◌+◌, Bool, true, false, List, [], ◌∷◌, ◌++◌, Option, Some, None, refl, sym, ap, subst, ◌∙◌, arith, inl, inr}
 use Rattle.obj_model.specs.declared.reply.Reply.{Reply}
 use Rattle.obj_model.specs.declared.req.Req.{Req}
@@ -58,7 +59,8 @@ quiet_fenced t e later = record {
 not_write : (f : Option Flight) (d : Option ℕ) (w o : ℕ) (r : Req) → is_write f ≡ false
     → f ≡ Some (Flight.Write d w o r) → ⊥
 not_write f d w o r idle e =
-    let h : is_write (Some (Flight.Write d w o r)) ≡ false = subst (λ x. is_write x ≡ false) e idle in
+    let h : is_write (Some (Flight.Write d w o r)) ≡ false = subst
+    (λ x. is_write x ≡ false) e idle in
     absurd (cc)
 
 -- a write request that stands while the work of a name becomes what is none stood before
@@ -73,7 +75,8 @@ stood t k f idle n d w o r g = elim (same_or_not n k) [
 ]
 
 -- the work of a name changes, and is no write request then
-pub quiet_at : (t : Tier) (k : Name) (f : Option Flight) → is_write f ≡ false → Quiet t (with_flight k f t)
+pub quiet_at : (t : Tier) (k : Name) (f : Option Flight) → is_write f ≡ false
+    → Quiet t (with_flight k f t)
 quiet_at t k f idle = record {
   base = refl;
   opening = refl;
@@ -103,7 +106,8 @@ pub quiet_held : (t : Tier) (k : Name) (v : Option TierRec) → Quiet t (held k 
 quiet_held t k v = quiet_rec t (with_flight k None t) k v (quiet_at t k None refl)
 
 -- work that is no write request begins
-pub quiet_begun : (t : Tier) (k : Name) (f : Flight) → is_write (Some f) ≡ false → Quiet t (begun k f t)
+pub quiet_begun : (t : Tier) (k : Name) (f : Flight) → is_write (Some f) ≡ false
+    → Quiet t (begun k f t)
 quiet_begun t k f idle = record {
   base = refl;
   opening = refl;
@@ -112,8 +116,14 @@ quiet_begun t k f idle = record {
   wire = λ m on. on;
   given = λ e op g.
       record { begun = g.begun; silent = g.silent; counted = λ now. omega (arith, g.counted now) };
-  writing = λ n d w o r g.
-      (refl, (d, stood (with_net (record t.net { next_opid = t.net.next_opid + 1 }) t) k (Some f) idle n d w o r g));
+  writing = λ n d w o r g. (
+    refl,
+    (
+      d,
+      stood (with_net (record t.net { next_opid = t.net.next_opid + 1 }) t) k
+          (Some f) idle n d w o r g,
+    ),
+  );
   told = λ e op answer on. on;
 }
 
@@ -185,5 +195,6 @@ counting_keeps t l h w may = record {
   acted = w.acted;
   once = w.once;
   pending = w.pending;
-  writing = λ n d owner o r f. absurd (none_writes t h (λ up. let d = may.down in absurd (cc)) n d owner o r f);
+  writing = λ n d owner o r f. absurd (none_writes t h (λ up. let d = may.down in absurd
+      (cc)) n d owner o r f);
 }

@@ -48,8 +48,10 @@ beginning_owned t l k driver owner op line r h w may asked free = record {
   pending = w.pending;
   writing = λ n d v j q f. elim (same_or_not n k) [
     | inl is ↦ subst (λ m. SoundWriting (begun k flight t) l m v j q) (sym is) (fresh d v j q
-        (sym here ∙ subst (λ m. (cell_of (begun k flight t) m).flight ≡ Some (Flight.Write d v j q)) is f))
-    | inr ne ↦ old n d v j q (sym (ap (λ c. c.flight) (flight_there (with_net next t) k (Some flight) n ne)) ∙ f)
+        (sym here ∙ subst (λ m. (cell_of (begun k flight t) m).flight ≡ Some
+        (Flight.Write d v j q)) is f))
+    | inr ne ↦ old n d v j q (sym (ap (λ c. c.flight) (flight_there (with_net next t) k
+        (Some flight) n ne)) ∙ f)
   ];
 }
   where
@@ -86,7 +88,8 @@ beginning_owned t l k driver owner op line r h w may asked free = record {
             → op < t.net.next_opid
         given answer on =
             let g : IsGiven t.net t.net.cache_epoch op =
-            h.memory.wire.replied (BaseReply.Wrote t.net.cache_epoch op (BaseActed.Fresh answer)) on in
+            h.memory.wire.replied (BaseReply.Wrote t.net.cache_epoch op
+            (BaseActed.Fresh answer)) on in
             g.counted refl
 
     same_parts : (d : Option ℕ) (v j : ℕ) (q : Req) → Some flight ≡ Some (Flight.Write d v j q)
@@ -111,7 +114,8 @@ writing_owned t l e op r driver owner line h w now f asked = record {
     | inr old ↦ let x = w.known i j q old in (x.0, inr x.1, x.2, x.3, x.4)
   ];
   asked = λ o is. elim is [
-    | inl same ↦ subst (λ x. l.asks x.call ≡ Some (record { line = x.line; req = x.req })) (sym same) asked
+    | inl same ↦ subst (λ x. l.asks x.call ≡ Some (record { line = x.line; req = x.req }))
+        (sym same) asked
     | inr old ↦ w.asked o old
   ];
   given = λ o is. elim is [
@@ -173,12 +177,14 @@ writing_owned t l e op r driver owner line h w now f asked = record {
     owner_of : (n : Name) (d : Option ℕ) (v j : ℕ) (q : Req)
         → (cell_of t n).flight ≡ Some (Flight.Write d v j q) → j ≡ op → owner ≡ v
     owner_of n d v j q g number =
-        let there : HasOpid (cell_of t n).flight op = subst (λ x. HasOpid x op) (sym g) (sym number) in
+        let there : HasOpid (cell_of t n).flight op = subst (λ x. HasOpid x op) (sym g)
+        (sym number) in
         let at : r.name ≡ n = h.memory.apart r.name n op has there in
         one_owner driver d owner v op j r q
         (sym f ∙ subst (λ x. (cell_of t x).flight ≡ Some (Flight.Write d v j q)) (sym at) g)
 
-    no_install : (i j : ℕ) (s : NameState) → BaseMsg.Install i j r.name s ≡ m → s ≡ (cell_of t r.name).plain
+    no_install : (i j : ℕ) (s : NameState) → BaseMsg.Install i j r.name s ≡ m
+        → s ≡ (cell_of t r.name).plain
     no_install i j s same = absurd (cc)
 
     -- what was sent is spent, or its owner has no act
@@ -194,7 +200,8 @@ writing_owned t l e op r driver owner line h w now f asked = record {
         → IsIn (BaseMsg.Write o.epoch o.opid o.req) (m ∷ t.net.wire) → t.net.base_epoch ≤ o.epoch
         → IsSpent o.req.name (cell_of t o.req.name) next o.req ⊎ IsOpen l o.call
     pending o (inl same) on above =
-        subst (λ x. IsSpent x.req.name (cell_of t x.req.name) next x.req ⊎ IsOpen l x.call) (sym same) now_pending
+        subst (λ x. IsSpent x.req.name (cell_of t x.req.name) next x.req
+        ⊎ IsOpen l x.call) (sym same) now_pending
     pending o (inr old) (inl same) above =
         let is = one_write e o.epoch op o.opid r o.req same in
         let mine : o.call ≡ owner = this.own o old (sym is.0 ∙ now) (sym is.1) in
@@ -212,7 +219,11 @@ writing_owned t l e op r driver owner line h w now f asked = record {
 pub sending_owned : SendingKeepsOwners
 sending_owned t l m h w may plain = record {
   same = w.same;
-  known = λ i j q on. elim on [ inl same ↦ absurd (no_write i j q same) | inr old ↦ w.known i j q old ];
+  known = λ i j q on. elim on [
+    | inl same ↦ absurd
+        (no_write i j q same)
+    | inr old ↦ w.known i j q old
+  ];
   asked = w.asked;
   given = w.given;
   reached = w.reached;
@@ -268,8 +279,11 @@ install_owned t l e op k s h w on above = record {
     line = x.line;
     asked = x.asked;
     pending = x.pending;
-    acted = λ a is mine. let g = x.acted a is mine in
-        (g.0, subst (λ c. act c.base q ≡ Again a.reply) (sym (base_there t k s n (other n d v j q f))) g.1);
+    acted = λ a is mine. let g = x.acted a is mine in (
+      g.0,
+      subst (λ c. act c.base q ≡ Again a.reply) (sym (base_there t k s n
+          (other n d v j q f))) g.1,
+    );
     own = x.own;
     told = λ answer there. elim there [ inl same ↦ absurd (cc) | inr old ↦ x.told answer old ];
   };
@@ -286,7 +300,8 @@ install_owned t l e op k s h w on above = record {
         → (cell_of t n).flight ≡ Some (Flight.Write d v j q) → n ≢ k
     other n d v j q f is =
         let at = h.names n in
-        let even : (cell_of t n).base ≡ (cell_of t n).plain = at.clean (ap is_dirty (at.bare (ap is_bare f))) in
+        let even : (cell_of t n).base ≡ (cell_of t n).plain = at.clean (ap is_dirty (at.bare
+        (ap is_bare f))) in
         let here : (cell_of t k).base ≡ (cell_of t k).plain =
         subst (λ m. (cell_of t m).base ≡ (cell_of t m).plain) is even in
         omega (arith, above, behind, ap (λ x. x.seq) here)
@@ -295,7 +310,12 @@ install_owned t l e op k s h w on above = record {
         → IsSpent k (record (cell_of t k) { base = s }) next q
     still_here q (inl worn) = absurd (omega (arith, above, behind, worn, (h.names k).few))
     still_here q (inr x) =
-        inr (x.2 e op s on above, x.1, λ i j u there more. x.2 i j u there (omega (arith, above, more)))
+        inr (
+          x.2 e op s on above,
+          x.1,
+          λ i j u there more. x.2 i j u there (omega
+              (arith, above, more)),
+        )
 
     still : (n : Name) (q : Req) → IsSpent n (cell_of t n) t.net q
         → IsSpent n (cell_of (with_base k s t) n) next q
@@ -304,10 +324,12 @@ install_owned t l e op k s h w on above = record {
           subst (λ m. IsSpent m (cell_of (with_base k s t) m) next q) (sym is)
           (subst (λ c. IsSpent k c next q) (sym (base_here t k s))
           (still_here q (subst (λ m. IsSpent m (cell_of t m) t.net q) is spent)))
-      | inr ne ↦ subst (λ c. IsSpent n c next q) (sym (base_there t k s n ne)) (spent_same n q spent)
+      | inr ne ↦ subst (λ c. IsSpent n c next q) (sym (base_there t k s n ne))
+          (spent_same n q spent)
     ]
       where
-        spent_same : (n : Name) (q : Req) → IsSpent n (cell_of t n) t.net q → IsSpent n (cell_of t n) next q
+        spent_same : (n : Name) (q : Req) → IsSpent n (cell_of t n) t.net q
+            → IsSpent n (cell_of t n) next q
         spent_same n q (inl worn) = inl worn
         spent_same n q (inr x) = inr x
 
@@ -322,7 +344,8 @@ told_owned t l p w none = quiet_keeps t (with_reply p t) l w (quiet_replied t p 
 
 old_owned : (t : Tier) (l : Ledger) (e : ℕ) → SoundOwners t l
     → SoundOwners (with_reply (BaseReply.OldEpoch t.net.base_epoch e) t) l
-old_owned t l e w = told_owned t l (BaseReply.OldEpoch t.net.base_epoch e) w (λ i op answer same. absurd (cc))
+old_owned t l e w = told_owned t l (BaseReply.OldEpoch t.net.base_epoch e) w
+    (λ i op answer same. absurd (cc))
 
 fence_owned : (t : Tier) (l : Ledger) (e : ℕ) → SoundOwners t l → (b : Bool)
     → nat_lt e t.net.base_epoch ≡ b

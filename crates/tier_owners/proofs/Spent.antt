@@ -15,10 +15,14 @@ pub spent_sent : (n : Name) (c : Cell) (net : Net) (m : BaseMsg) (r : Req)
     → ((e op : ℕ) (t : NameState) → BaseMsg.Install e op n t ≡ m → t ≡ c.plain)
     → IsSpent n c net r → IsSpent n c (record net { wire = m ∷ net.wire }) r
 spent_sent n c net m r new (inl worn) = inl worn
-spent_sent n c net m r new (inr h) = inr (h.0, h.1, λ e op t on above. elim on [
-  | inl same ↦ subst (λ x. Covers x r) (sym (new e op t same)) h.1
-  | inr old ↦ h.2 e op t old above
-])
+spent_sent n c net m r new (inr h) = inr (
+  h.0,
+  h.1,
+  λ e op t on above. elim on [
+    | inl same ↦ subst (λ x. Covers x r) (sym (new e op t same)) h.1
+    | inr old ↦ h.2 e op t old above
+  ],
+)
 
 -- a Write that the base would take is spent where its name has a record and the cache is up
 pub spent_over_record : (t : Tier) (r : Req) → IsSound t → t.net.phase ≡ Phase.Up
@@ -35,7 +39,11 @@ has_act_or_not [] call = inl (λ a on. absurd on)
 has_act_or_not (b ∷ acts) call = elim (same_call b.call call) [
   | inl is ↦ inr (b, inl refl, is)
   | inr not ↦ elim (has_act_or_not acts call) [
-    | inl none ↦ inl (λ a on. elim on [ inl same ↦ subst (λ x. x.call ≢ call) (sym same) not | inr old ↦ none a old ])
+    | inl none ↦ inl (λ a on. elim on [
+      | inl same ↦ subst (λ x. x.call ≢ call)
+          (sym same) not
+      | inr old ↦ none a old
+    ])
     | inr some ↦ inr (some.0, inr some.1, some.2)
   ]
 ]

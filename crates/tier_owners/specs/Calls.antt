@@ -40,8 +40,8 @@ is_write_message (BaseMsg.Look e op k v) = false
 is_write_message (BaseMsg.Write e op r) = true
 is_write_message (BaseMsg.Install e op k s) = false
 
--- A call may be answered for good where no write request of it is under way, and each Write of it that
--- is on the wire, and that the base would take, is spent: then no act of it can come any more.
+-- A call may be answered for good where no write request of it is under way, and each Write of it
+-- that is on the wire, and that the base would take, is spent: then no act of it can come any more.
 pub record MayClose (t : Tier) (l : Ledger) (call : ℕ) : Type 0 where
   pub idle : (n : Name) (driver : Option ℕ) (op : ℕ) (r : Req)
       → (cell_of t n).flight ≡ Some (Flight.Write driver call op r) → ⊥
@@ -96,8 +96,8 @@ ActingKeepsOwners =
     → SoundOwners (acted_here r s moment t)
     (with_call_act (record { call = call; line = line; req = r; reply = answer }) l)
 
--- A message reaches the base, of which no act comes: a Fence, a chunk, a look, an installation, a Write
--- that is answered again, or is stale, or whose name is worn out; and any of an older epoch.
+-- A message reaches the base, of which no act comes: a Fence, a chunk, a look, an installation, a
+-- Write that is answered again, or is stale, or whose name is worn out; and any of an older epoch.
 abbrev pub DeliveringKeepsOwners : Type 0
 DeliveringKeepsOwners =
     (t : Tier) (l : Ledger) (m : BaseMsg) → IsSound t → SoundOwners t l → IsIn m t.net.wire
@@ -123,8 +123,8 @@ LandedMayClose =
     (t : Tier) (l : Ledger) (k : Name) (driver : Option ℕ) (owner op : ℕ) (r : Req) (b : BaseActed)
     → IsSound t → SoundOwners t l → MayLand t k driver owner op r b → MayClose (landed k t) l owner
 
--- So may a call whose request's name has a record while the cache is up: whether the request acted on
--- the record, or was answered again, or refused as stale.
+-- So may a call whose request's name has a record while the cache is up: whether the request acted
+-- on the record, or was answered again, or refused as stale.
 abbrev pub AnsweredHereMayClose : Type 0
 AnsweredHereMayClose =
     (t : Tier) (l : Ledger) (call line : ℕ) (r : Req) (rec : TierRec) → IsSound t → SoundOwners t l

@@ -23,7 +23,8 @@ abbrev pub with_tier : System → Tier → System
 with_tier s t = record s { tier = t }
 
 -- A Write that acts on the base, of a call that sent it.
-pub record MayActThere (s : System) (e op : ℕ) (r : Req) (state : NameState) (answer : Reply) (o : Owned) : Type 0 where
+pub record MayActThere (s : System) (e op : ℕ) (r : Req) (state : NameState) (answer : Reply)
+    (o : Owned) : Type 0 where
   pub on : IsIn (BaseMsg.Write e op r) s.tier.net.wire
   pub level : e ≡ s.tier.net.base_epoch
   pub acts : act (state_of s.tier.base r.name) r ≡ Fresh state answer
@@ -42,7 +43,8 @@ pub data Moves (s : System) : System → Type 0 where
       → MayActThere s e op r state answer o
       → Moves s (record {
         tier = delivered (BaseMsg.Write e op r) s.tier;
-        ledger = with_call_act (record { call = o.call; line = o.line; req = r; reply = answer }) s.ledger;
+        ledger = with_call_act
+            (record { call = o.call; line = o.line; req = r; reply = answer }) s.ledger;
       })
   -- the commit of a message finds no space
   fills : (m : BaseMsg) (used need limit : ℕ) → MayFill s.tier m used need limit
@@ -52,13 +54,15 @@ pub data Moves (s : System) : System → Type 0 where
       → MayActHere s.tier rec r state answer → HasAsked s.ledger call line r → IsOpen s.ledger call
       → Moves s (record {
         tier = acted_here r state moment s.tier;
-        ledger = with_call_act (record { call = call; line = line; req = r; reply = answer }) s.ledger;
+        ledger = with_call_act
+            (record { call = call; line = line; req = r; reply = answer }) s.ledger;
       })
   -- a promotion takes a chunk, and ends
   gathers : (k : Name) (call op : ℕ) (gather : List Chunk) (ask : Ask) (x : Chunk)
       → MayGather s.tier k call op gather ask x
       → Moves s (with_tier s (gathered k call op gather ask x s.tier))
-  promotes : (k : Name) (call op : ℕ) (gather : List Chunk) (ask : Ask) (state : NameState) (moment : ℕ)
+  promotes : (k : Name) (call op : ℕ) (gather : List Chunk) (ask : Ask) (state : NameState)
+      (moment : ℕ)
       → MayPromote s.tier k call op gather ask state
       → Moves s (with_tier s (promoted k state moment s.tier))
   -- a flush ends, and leaves a clean record, or none
@@ -66,7 +70,8 @@ pub data Moves (s : System) : System → Type 0 where
       → MayClean s.tier k call op seq m blocking drain rec
       → Moves s (with_tier s (cleaned k rec s.tier))
   drains : (k : Name) (call : Option ℕ) (op seq m : ℕ) (blocking drain : Bool) (rec : TierRec)
-      → MayClean s.tier k call op seq m blocking drain rec → Moves s (with_tier s (drained k s.tier))
+      → MayClean s.tier k call op seq m blocking drain rec → Moves s (with_tier s
+      (drained k s.tier))
   -- a clean record is evicted
   evicts : (k : Name) → MayEvict s.tier k → Moves s (with_tier s (evicted k s.tier))
   -- work begins: a write request of a call that asked it, or other work

@@ -21,7 +21,8 @@ MovesKeep = (s u : System) → IsHeld s → Moves s u → IsHeld u
 
 -- so it holds in every moment of a run
 abbrev pub RunsKeep : Type 0
-RunsKeep = (s : System) (us : List System) → IsHeld s → IsRun s us → (u : System) → IsIn u us → IsHeld u
+RunsKeep = (s : System) (us : List System) → IsHeld s → IsRun s us → (u : System) → IsIn u us
+    → IsHeld u
 
 -- no move forgets or changes an act, nor the store that the history began with
 pub record GoesOn (s u : System) : Type 0 where
@@ -98,11 +99,12 @@ RunsAreFaithful =
     (recs : Recs) (base plain : Store) (cache_epoch base_epoch : ℕ) (us : List System)
     → StandsFor recs base plain → (0 < cache_epoch → base_epoch ≤ cache_epoch)
     → IsRun (attached recs base plain cache_epoch base_epoch) us
-    → (u : System) → IsIn u (attached recs base plain cache_epoch base_epoch ∷ us) → IsFaithful plain u
+    → (u : System) → IsIn u (attached recs base plain cache_epoch base_epoch ∷ us)
+    → IsFaithful plain u
 
 -- ---- doubt
 
--- A commit of the base in doubt is a run too: the message acts or comes to what it comes to, and the
--- reply is lost. So all that holds over runs holds whichever way the doubt is settled.
+-- A commit of the base in doubt is a run too: the message acts or comes to what it comes to, and
+-- the reply is lost. So all that holds over runs holds whichever way the doubt is settled.
 abbrev pub TakenIsLost : Type 0
 TakenIsLost = (t : Tier) (m : BaseMsg) → Loses (delivered m t) (taken m t)

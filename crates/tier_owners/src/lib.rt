@@ -1,10 +1,11 @@
 //! Whose act each Write will be, through every move, and what holds over every run of moves.
 //!
-//! `specs/Calls.antt` says what is written down of calls, and that each move keeps it; `specs/Moving.antt` has one
-//! relation of all moves, and `specs/Runs.antt` the laws over lists of them: from a pair as it is found when it is
-//! attached, in every moment of every run, the history is legal, no request id acts twice, each act is its call's, what
-//! readers and writers are told is what one plain store tells, and a drained base alone is that store. The calls of this
-//! crate do nothing: their contracts are the laws, and the layers above cite these.
+//! `specs/Calls.antt` says what is written down of calls, and that each move keeps it;
+//! `specs/Moving.antt` has one relation of all moves, and `specs/Runs.antt` the laws over lists of
+//! them: from a pair as it is found when it is attached, in every moment of every run, the history
+//! is legal, no request id acts twice, each act is its call's, what readers and writers are told is
+//! what one plain store tells, and a drained base alone is that store. The calls of this crate do
+//! nothing: their contracts are the laws, and the layers above cite these.
 #![tactic(auto)]
 
 mod owning;

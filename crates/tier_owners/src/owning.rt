@@ -31,7 +31,8 @@ pub fn acting_keeps_owners()
     ensures { ActingKeepsOwners }
 {}
 
-/// A message may reach the base of which no act comes: an installation, or a Write that does not act.
+/// A message may reach the base of which no act comes: an installation, or a Write that does not
+/// act.
 pub fn delivering_keeps_owners()
     ensures { DeliveringKeepsOwners }
 {}

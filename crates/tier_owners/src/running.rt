@@ -26,9 +26,9 @@ pub fn legal_act_once()
     ensures { LegalActOnce }
 {}
 
-/// In each moment of every run from an attached pair on: the history is legal, no request id acts twice, each act is its
-/// call's, what readers and writers are told and what records show is the plain store's, and where no record is left the
-/// base alone is the plain store.
+/// In each moment of every run from an attached pair on: the history is legal, no request id acts
+/// twice, each act is its call's, what readers and writers are told and what records show is the
+/// plain store's, and where no record is left the base alone is the plain store.
 pub fn runs_are_faithful()
     ensures { RunsAreFaithful }
 {}

@@ -24,7 +24,8 @@ starting e f = record {
   };
   apart = λ n m op has have.
       absurd (subst (λ x. HasOpid x op) (fin.get-empty {X = Flight} name_cmp n) has);
-  each = λ n. free_as n (fin.get fin.empty n) (nothing e f) (nothing e f) (fin.get-empty {X = Flight} name_cmp n);
+  each = λ n. free_as n (fin.get fin.empty n) (nothing e f) (nothing e f)
+      (fin.get-empty {X = Flight} name_cmp n);
 }
   where
     nothing : (cache_epoch base_epoch : ℕ) → Net
@@ -79,13 +80,15 @@ same_given net e (BaseReply.NotFenced have got) h = h
 
 pub answering : AnsweringKeepsMemory
 answering flights net m have s h on =
-    memory_replied flights (record net { base_epoch = (served have s m).epoch }) (served have s m).reply
+    memory_replied flights (record net { base_epoch = (served have s m).epoch })
+        (served have s m).reply
     (memory_fenced flights net (served have s m).epoch h)
     (same_given net (served have s m).epoch (served have s m).reply
     (reply_given net m have s (h.wire.sent m on)))
 
 pub replying : ReplyingKeepsMemory
-replying flights net p e h given = (memory_replied flights net p h given, memory_fenced flights net e h)
+replying flights net p e h given =
+    (memory_replied flights net p h given, memory_fenced flights net e h)
 
 -- ---- work
 
@@ -109,7 +112,8 @@ starts flights net k (Flight.Write driver owner o r) h up may =
     (λ c op g a e. absurd (cc)) (λ list e. absurd (cc)))
 starts flights net k (Flight.Reads list) h up may =
     subst
-    (λ l. SoundMemory (set_at flights k (Some (Flight.Reads l))) (record net { next_opid = net.next_opid + 1 }))
+    (λ l. SoundMemory (set_at flights k (Some (Flight.Reads l)))
+        (record net { next_opid = net.next_opid + 1 }))
     (sym may.1.2)
     (memory_begun flights net k (Flight.Reads (reads_with (fin.get flights k) may.1.0)) h
     (λ op has. elim (old_or_new (fin.get flights k) may.1.0 op has) [
@@ -118,7 +122,8 @@ starts flights net k (Flight.Reads list) h up may =
     ])
     (flight_read k (fin.get flights k) net may.1.0 (h.each k) h.wire up may.0 may.1.1))
 starts flights net k (Flight.Flush call o seq blocking drain) h up may =
-    memory_begun flights net k (Flight.Flush call o seq blocking drain) h (λ op has. inr (has ∙ may.1))
+    memory_begun flights net k (Flight.Flush call o seq blocking drain) h (λ op has. inr (has
+        ∙ may.1))
     (flight_begun k (Flight.Flush call o seq blocking drain) net h.wire up (λ op has. has ∙ may.1)
     (λ d w op r e. absurd (cc)) (λ c op g a e. absurd (cc)) (λ list e. absurd (cc)))
 
@@ -140,20 +145,23 @@ tells flights net (BaseMsg.GetChunk e op k at) h may =
     let f : fin.get flights k ≡ Some (Flight.Promote may.1.0 op may.1.1 may.1.2) = may.1.3 in
     let has : HasOpid (fin.get flights k) op = subst (λ f. HasOpid f op) (sym f) refl in
     memory_sent flights net (BaseMsg.GetChunk e op k at) h
-    (subst (λ i. IsGiven net i op) (sym may.0) (given_in flights net k op h has (λ free. absurd (cc))))
+    (subst (λ i. IsGiven net i op) (sym may.0) (given_in flights net k op h has (λ free. absurd
+        (cc))))
     (λ n. λ now have.
     subst (λ x. IsOwn x (fin.get flights x) net.cache_epoch (BaseMsg.GetChunk e op k at))
     (h.apart k n op has have) (own f) now have)
   where
     own : fin.get flights k ≡ Some (Flight.Promote may.1.0 op may.1.1 may.1.2)
         → IsOwn k (fin.get flights k) net.cache_epoch (BaseMsg.GetChunk e op k at)
-    own f = subst (λ x. IsOwn k x net.cache_epoch (BaseMsg.GetChunk e op k at)) (sym f) (λ now have. refl)
+    own f = subst (λ x. IsOwn k x net.cache_epoch (BaseMsg.GetChunk e op k at)) (sym f)
+        (λ now have. refl)
 tells flights net (BaseMsg.Look e op k v) h may =
     let f : fin.get flights k ≡ Some (Flight.Reads may.1.0) = may.1.2 in
     let has : HasOpid (fin.get flights k) op =
     subst (λ f. HasOpid f op) (sym f) (may.1.1, may.1.3, sym may.1.4) in
     memory_sent flights net (BaseMsg.Look e op k v) h
-    (subst (λ i. IsGiven net i op) (sym may.0) (given_in flights net k op h has (λ free. absurd (cc))))
+    (subst (λ i. IsGiven net i op) (sym may.0) (given_in flights net k op h has (λ free. absurd
+        (cc))))
     (λ n. λ now have.
     subst (λ x. IsOwn x (fin.get flights x) net.cache_epoch (BaseMsg.Look e op k v))
     (h.apart k n op has have) (own f) now have)
@@ -163,31 +171,36 @@ tells flights net (BaseMsg.Look e op k v) h may =
     own f =
         subst (λ x. IsOwn k x net.cache_epoch (BaseMsg.Look e op k v)) (sym f)
         (λ now have. (refl, λ r on same.
-        ap (λ x. x.vector) ((h.each k).single may.1.0 r may.1.1 f on may.1.3 (same ∙ sym may.1.4)) ∙ may.1.5))
+        ap (λ x. x.vector) ((h.each k).single may.1.0 r may.1.1 f on may.1.3 (same ∙ sym may.1.4))
+            ∙ may.1.5))
 tells flights net (BaseMsg.Write e op r) h may =
     let f : fin.get flights r.name ≡ Some (Flight.Write may.1.0 may.1.1 op r) = may.1.2 in
     let has : HasOpid (fin.get flights r.name) op = subst (λ f. HasOpid f op) (sym f) refl in
     memory_sent flights net (BaseMsg.Write e op r) h
-    (subst (λ i. IsGiven net i op) (sym may.0) (given_in flights net r.name op h has (λ free. absurd (cc))))
+    (subst (λ i. IsGiven net i op) (sym may.0) (given_in flights net r.name op h has (λ free. absurd
+        (cc))))
     (λ n. λ now have.
     subst (λ x. IsOwn x (fin.get flights x) net.cache_epoch (BaseMsg.Write e op r))
     (h.apart r.name n op has have) (own f) now have)
   where
     own : fin.get flights r.name ≡ Some (Flight.Write may.1.0 may.1.1 op r)
         → IsOwn r.name (fin.get flights r.name) net.cache_epoch (BaseMsg.Write e op r)
-    own f = subst (λ x. IsOwn r.name x net.cache_epoch (BaseMsg.Write e op r)) (sym f) (λ now have. refl)
+    own f = subst (λ x. IsOwn r.name x net.cache_epoch (BaseMsg.Write e op r)) (sym f)
+        (λ now have. refl)
 tells flights net (BaseMsg.Install e op k s) h may =
     let f : fin.get flights k ≡ Some (Flight.Flush may.1.0 op may.1.1 may.1.2 may.1.3) = may.1.4 in
     let has : HasOpid (fin.get flights k) op = subst (λ f. HasOpid f op) (sym f) refl in
     memory_sent flights net (BaseMsg.Install e op k s) h
-    (subst (λ i. IsGiven net i op) (sym may.0) (given_in flights net k op h has (λ free. absurd (cc))))
+    (subst (λ i. IsGiven net i op) (sym may.0) (given_in flights net k op h has (λ free. absurd
+        (cc))))
     (λ n. λ now have.
     subst (λ x. IsOwn x (fin.get flights x) net.cache_epoch (BaseMsg.Install e op k s))
     (h.apart k n op has have) (own f) now have)
   where
     own : fin.get flights k ≡ Some (Flight.Flush may.1.0 op may.1.1 may.1.2 may.1.3)
         → IsOwn k (fin.get flights k) net.cache_epoch (BaseMsg.Install e op k s)
-    own f = subst (λ x. IsOwn k x net.cache_epoch (BaseMsg.Install e op k s)) (sym f) (λ now have. refl)
+    own f = subst (λ x. IsOwn k x net.cache_epoch (BaseMsg.Install e op k s)) (sym f)
+        (λ now have. refl)
 
 -- ---- stops and starts
 

@@ -59,11 +59,13 @@ covers_stays s r q t reply covers e =
     (act_lowers_none s q r.client r.tid (past_keeps s r covers)))
 
 -- a request that acted is answered again, so it is covered
-pub fresh_again : (s : NameState) (r : Req) (t : NameState) (reply : Reply) → act s r ≡ Fresh t reply
+pub fresh_again : (s : NameState) (r : Req) (t : NameState) (reply : Reply)
+    → act s r ≡ Fresh t reply
     → act t r ≡ Again reply
 fresh_again s r = acted_kept s r
 
-pub fresh_covers : (s : NameState) (r : Req) (t : NameState) (reply : Reply) → act s r ≡ Fresh t reply
+pub fresh_covers : (s : NameState) (r : Req) (t : NameState) (reply : Reply)
+    → act s r ≡ Fresh t reply
     → Covers t r
 fresh_covers s r t reply e = ap is_past (acted_kept s r t reply e)
 

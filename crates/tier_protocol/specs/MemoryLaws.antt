@@ -1,5 +1,6 @@
--- What is proved of memory and the wire alone. No premise here speaks of a record, a state of a pool, or
--- the plain store, so all of it holds over stores that tell nothing of what they have, too.
+-- What is proved of memory and the wire alone. No premise here speaks of a record, a state of a
+-- pool, or the plain store, so all of it holds over stores that tell nothing of what they have,
+-- too.
 use Rattle.std.specs.Prelude.{◌≡◌, ◌≢◌, ◌≤◌, ◌<◌, ℕ, ◌+◌, Bool, true, false, List, [], ◌∷◌, ◌++◌, Option, Some, None}
 use Rattle.std.specs.FinMap as map
 use Rattle.copy_chunk.specs.declared.chunk.Chunk.{Chunk}
@@ -59,8 +60,8 @@ StartingMemory =
       fenced = false;
     })
 
--- A message of the wire is answered. Whatever states and whatever epoch the base has, what it replies
--- and the epoch that it has then keep memory sound.
+-- A message of the wire is answered. Whatever states and whatever epoch the base has, what it
+-- replies and the epoch that it has then keep memory sound.
 abbrev pub AnsweringKeepsMemory : Type 0
 AnsweringKeepsMemory =
     (flights : Flights) (net : Net) (m : BaseMsg) (have : ℕ) (s : NameState)
@@ -73,7 +74,8 @@ AnsweringKeepsMemory =
 -- a reply that is given out, such as a want of space; and a base whose epoch is another
 abbrev pub ReplyingKeepsMemory : Type 0
 ReplyingKeepsMemory =
-    (flights : Flights) (net : Net) (p : BaseReply) (e : ℕ) → SoundMemory flights net → IsReplied net p
+    (flights : Flights) (net : Net) (p : BaseReply) (e : ℕ) → SoundMemory flights net
+        → IsReplied net p
     → SoundMemory flights (record net { replies = p ∷ net.replies })
     × SoundMemory flights (record net { base_epoch = e })
 
@@ -123,7 +125,8 @@ abbrev pub RaisingKeepsMemory : Type 0
 RaisingKeepsMemory =
     (flights : Flights) (net : Net) (e : ℕ) → SoundMemory flights net → net.phase ≢ Phase.Up
     → net.cache_epoch < e
-    → SoundMemory flights (record net { cache_epoch = e; next_opid = 1; phase = Phase.Raised; fenced = false })
+    → SoundMemory flights
+        (record net { cache_epoch = e; next_opid = 1; phase = Phase.Raised; fenced = false })
     × SoundMemory flights (record net { cache_epoch = e; phase = Phase.Down; fenced = false })
 
 -- the base told that it holds the epoch

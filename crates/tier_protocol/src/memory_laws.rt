@@ -1,4 +1,5 @@
-//! Memory and the wire stay sound without a word of what the pools have, so over stores that tell nothing too.
+//! Memory and the wire stay sound without a word of what the pools have, so over stores that tell
+//! nothing too.
 ghost use Rattle.tier_protocol.specs.MemoryLaws.{AnsweringKeepsMemory, EndingKeepsMemory, GatheringKeepsMemory, GoingUpKeepsMemory, LosingKeepsMemory, RaisingKeepsMemory, ReplyingKeepsMemory, StartingKeepsMemory, StartingMemory, StoppingKeepsMemory, TellingKeepsMemory};
 
 /// Memory in which nothing is under way is sound.
