@@ -187,7 +187,7 @@ def changed(rng, system):
     """The system with one part of it made anew."""
     world, memory = system.worlds[0], system.memory
     name = rng.randrange(len(world.records))
-    what = rng.randrange(13)
+    what = rng.randrange(15)
     if what <= 2:
         message = any_message(rng, world, memory)
         memory = memory._replace(wire=memory.wire | {message})
@@ -227,6 +227,11 @@ def changed(rng, system):
                                acts=tuple(c for c in world.acts if c[0] != name))
         memory = memory._replace(owned=memory.owned | {(epoch, 0, (name, (3, 1), 0))}, wire=memory.wire | {
             ("install", epoch, 0, name, plain), ("write", epoch, 0, name, (3, 1))})
+    elif what == 12:
+        memory = memory._replace(wire=frozenset(m for m in memory.wire if rng.random() < 0.3))
+    elif what == 13:
+        flight = any_work(rng, world, memory, name)
+        memory = memory._replace(work=at(memory.work, name, flight), wire=frozenset(), replies=frozenset())
     else:
         calls = [(name, r, a) for r in REQUESTS for a in range(2)]
         memory = memory._replace(**rng.choice((

@@ -1,5 +1,5 @@
 -- The laws of memory and the wire alone.
-use Rattle.std.proofs.Common.{◌≡◌, ◌≢◌, ◌<◌, ◌≤◌, ℕ, ◌+◌, Bool, true, false, List, [], Option, Some, None, refl, sym, ap, subst, ◌∙◌, arith, inl, inr}
+use Rattle.std.proofs.Common.{◌≡◌, ◌≢◌, ◌≤◌, ℕ, ◌+◌, Bool, true, false, [], Some, None, refl, sym, ap, subst, ◌∙◌, arith, inl, inr}
 use Rattle.std.specs.Prelude.{if◌then◌else◌, nat_lt}
 use Rattle.std.specs.FinMap as fin
 use Rattle.std.proofs.lemmas.Bool.{ltb-true}
@@ -7,9 +7,9 @@ use Rattle.obj_model.specs.Names.{name_cmp}
 use Rattle.obj_model.specs.declared.state.NameState.{NameState}
 use Rattle.tier_types.specs.Flights.{HasOpid, name_asked}
 use Rattle.tier_types.specs.Serving.{Served, in_epoch, replies, served}
-use Rattle.tier_protocol.specs.Tiers.{Name, Flight, BaseMsg, BaseReply, Phase, Flights, Net, IsIn}
+use Rattle.tier_protocol.specs.Tiers.{Name, Flight, BaseMsg, BaseReply, Phase, Flights, Net}
 use Rattle.tier_protocol.specs.Memory.{IsGiven, IsOwn, IsReplied, IsSent, SoundFlight, SoundMemory}
-use Rattle.tier_protocol.specs.MemoryLaws.{AnsweringKeepsMemory, GatheringKeepsMemory, MayStart, MayTell, RaisingKeepsMemory, ReplyingKeepsMemory, StartingKeepsMemory, StartingMemory, StoppingKeepsMemory, TellingKeepsMemory}
+use Rattle.tier_protocol.specs.MemoryLaws.{AnsweringKeepsMemory, GatheringKeepsMemory, RaisingKeepsMemory, ReplyingKeepsMemory, StartingKeepsMemory, StartingMemory, StoppingKeepsMemory, TellingKeepsMemory}
 use Rattle.tier_protocol.specs.Moves.{reads_with, set_at}
 use Rattle.tier_protocol.proofs.Memory.{flight_begun, flight_gathered, flight_read, free_as, memory_at, memory_begun, memory_fenced, memory_found, memory_raised, memory_replied, memory_sent, memory_stopped, memory_unfenced, old_or_new}
 
@@ -81,7 +81,7 @@ same_given net e (BaseReply.NotFenced have got) h = h
 pub answering : AnsweringKeepsMemory
 answering flights net m have s h on =
     memory_replied flights (record net { base_epoch = (served have s m).epoch })
-        (served have s m).reply
+    (served have s m).reply
     (memory_fenced flights net (served have s m).epoch h)
     (same_given net (served have s m).epoch (served have s m).reply
     (reply_given net m have s (h.wire.sent m on)))
@@ -113,7 +113,7 @@ starts flights net k (Flight.Write driver owner o r) h up may =
 starts flights net k (Flight.Reads list) h up may =
     subst
     (λ l. SoundMemory (set_at flights k (Some (Flight.Reads l)))
-        (record net { next_opid = net.next_opid + 1 }))
+    (record net { next_opid = net.next_opid + 1 }))
     (sym may.1.2)
     (memory_begun flights net k (Flight.Reads (reads_with (fin.get flights k) may.1.0)) h
     (λ op has. elim (old_or_new (fin.get flights k) may.1.0 op has) [
@@ -123,7 +123,7 @@ starts flights net k (Flight.Reads list) h up may =
     (flight_read k (fin.get flights k) net may.1.0 (h.each k) h.wire up may.0 may.1.1))
 starts flights net k (Flight.Flush call o seq blocking drain) h up may =
     memory_begun flights net k (Flight.Flush call o seq blocking drain) h (λ op has. inr (has
-        ∙ may.1))
+    ∙ may.1))
     (flight_begun k (Flight.Flush call o seq blocking drain) net h.wire up (λ op has. has ∙ may.1)
     (λ d w op r e. absurd (cc)) (λ c op g a e. absurd (cc)) (λ list e. absurd (cc)))
 
@@ -146,7 +146,7 @@ tells flights net (BaseMsg.GetChunk e op k at) h may =
     let has : HasOpid (fin.get flights k) op = subst (λ f. HasOpid f op) (sym f) refl in
     memory_sent flights net (BaseMsg.GetChunk e op k at) h
     (subst (λ i. IsGiven net i op) (sym may.0) (given_in flights net k op h has (λ free. absurd
-        (cc))))
+    (cc))))
     (λ n. λ now have.
     subst (λ x. IsOwn x (fin.get flights x) net.cache_epoch (BaseMsg.GetChunk e op k at))
     (h.apart k n op has have) (own f) now have)
@@ -161,7 +161,7 @@ tells flights net (BaseMsg.Look e op k v) h may =
     subst (λ f. HasOpid f op) (sym f) (may.1.1, may.1.3, sym may.1.4) in
     memory_sent flights net (BaseMsg.Look e op k v) h
     (subst (λ i. IsGiven net i op) (sym may.0) (given_in flights net k op h has (λ free. absurd
-        (cc))))
+    (cc))))
     (λ n. λ now have.
     subst (λ x. IsOwn x (fin.get flights x) net.cache_epoch (BaseMsg.Look e op k v))
     (h.apart k n op has have) (own f) now have)
@@ -170,15 +170,18 @@ tells flights net (BaseMsg.Look e op k v) h may =
         → IsOwn k (fin.get flights k) net.cache_epoch (BaseMsg.Look e op k v)
     own f =
         subst (λ x. IsOwn k x net.cache_epoch (BaseMsg.Look e op k v)) (sym f)
-        (λ now have. (refl, λ r on same.
-        ap (λ x. x.vector) ((h.each k).single may.1.0 r may.1.1 f on may.1.3 (same ∙ sym may.1.4))
-            ∙ may.1.5))
+        (λ now have. (
+          refl,
+          λ r on same.
+              ap (λ x. x.vector) ((h.each k).single may.1.0 r may.1.1 f on may.1.3 (same ∙ sym may.1.4))
+              ∙ may.1.5,
+        ))
 tells flights net (BaseMsg.Write e op r) h may =
     let f : fin.get flights r.name ≡ Some (Flight.Write may.1.0 may.1.1 op r) = may.1.2 in
     let has : HasOpid (fin.get flights r.name) op = subst (λ f. HasOpid f op) (sym f) refl in
     memory_sent flights net (BaseMsg.Write e op r) h
     (subst (λ i. IsGiven net i op) (sym may.0) (given_in flights net r.name op h has (λ free. absurd
-        (cc))))
+    (cc))))
     (λ n. λ now have.
     subst (λ x. IsOwn x (fin.get flights x) net.cache_epoch (BaseMsg.Write e op r))
     (h.apart r.name n op has have) (own f) now have)
@@ -192,7 +195,7 @@ tells flights net (BaseMsg.Install e op k s) h may =
     let has : HasOpid (fin.get flights k) op = subst (λ f. HasOpid f op) (sym f) refl in
     memory_sent flights net (BaseMsg.Install e op k s) h
     (subst (λ i. IsGiven net i op) (sym may.0) (given_in flights net k op h has (λ free. absurd
-        (cc))))
+    (cc))))
     (λ n. λ now have.
     subst (λ x. IsOwn x (fin.get flights x) net.cache_epoch (BaseMsg.Install e op k s))
     (h.apart k n op has have) (own f) now have)

@@ -1,7 +1,7 @@
 -- What is proved of memory and the wire alone. No premise here speaks of a record, a state of a
 -- pool, or the plain store, so all of it holds over stores that tell nothing of what they have,
 -- too.
-use Rattle.std.specs.Prelude.{◌≡◌, ◌≢◌, ◌≤◌, ◌<◌, ℕ, ◌+◌, Bool, true, false, List, [], ◌∷◌, ◌++◌, Option, Some, None}
+use Rattle.std.specs.Prelude.{◌≡◌, ◌≢◌, ◌<◌, ℕ, ◌+◌, Bool, true, false, List, [], ◌∷◌, Option, Some, None}
 use Rattle.std.specs.FinMap as map
 use Rattle.copy_chunk.specs.declared.chunk.Chunk.{Chunk}
 use Rattle.obj_model.specs.declared.state.NameState.{NameState}
@@ -75,7 +75,7 @@ AnsweringKeepsMemory =
 abbrev pub ReplyingKeepsMemory : Type 0
 ReplyingKeepsMemory =
     (flights : Flights) (net : Net) (p : BaseReply) (e : ℕ) → SoundMemory flights net
-        → IsReplied net p
+    → IsReplied net p
     → SoundMemory flights (record net { replies = p ∷ net.replies })
     × SoundMemory flights (record net { base_epoch = e })
 
@@ -126,7 +126,7 @@ RaisingKeepsMemory =
     (flights : Flights) (net : Net) (e : ℕ) → SoundMemory flights net → net.phase ≢ Phase.Up
     → net.cache_epoch < e
     → SoundMemory flights
-        (record net { cache_epoch = e; next_opid = 1; phase = Phase.Raised; fenced = false })
+    (record net { cache_epoch = e; next_opid = 1; phase = Phase.Raised; fenced = false })
     × SoundMemory flights (record net { cache_epoch = e; phase = Phase.Down; fenced = false })
 
 -- the base told that it holds the epoch

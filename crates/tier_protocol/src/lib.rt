@@ -1,10 +1,13 @@
-//! The protocol between the two pools, as plain data, with the proof that each of its moves keeps what holds.
+//! The protocol between the two pools, as plain data, with the proof that each of its moves keeps
+//! what holds.
 //!
-//! A cache with dirty records lies over a base. Messages to the base may be lost, come twice, or come when the cache
-//! has stopped and started since. `specs/Tiers.antt` says what there is: records, states, work under way, the wire, and
-//! the plain store that all of it stands for. `specs/Moves.antt` has each move with what it needs; `specs/Memory.antt`
-//! and `specs/Sound.antt` have what holds in every moment, the one without a word of what the pools have, the other
-//! with it. The calls of this crate do nothing: their contracts are the laws, and the layers above cite these.
+//! A cache with dirty records lies over a base. Messages to the base may be lost, come twice, or
+//! come when the cache has stopped and started since. `specs/Tiers.antt` says what there is:
+//! records, states, work under way, the wire, and the plain store that all of it stands for.
+//! `specs/Moves.antt` has each move with what it needs; `specs/Memory.antt` and `specs/Sound.antt`
+//! have what holds in every moment, the one without a word of what the pools have, the other with
+//! it. The calls of this crate do nothing: their contracts are the laws, and the layers above cite
+//! these.
 #![tactic(auto)]
 
 mod answers;
