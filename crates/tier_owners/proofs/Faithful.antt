@@ -1,14 +1,11 @@
 -- From the attachment of a pair on, in every moment of every run, it is faithful to the plain
 -- store.
-use Rattle.std.proofs.Common.{◌≡◌, ◌<◌, ◌≤◌, ℕ, List, ◌∷◌, refl, sym, subst, inl, inr}
-use Rattle.obj_ops.specs.Stores.{Store}
-use Rattle.tier_protocol.specs.Tiers.{BaseMsg, Recs, Tier, IsIn, cell_of}
-use Rattle.tier_protocol.specs.Laws.{StandsFor}
-use Rattle.tier_protocol.specs.Moves.{delivered, taken, Loses}
+use Rattle.std.proofs.Common.{refl, sym, subst, inl, inr}
+use Rattle.tier_protocol.specs.Tiers.{cell_of}
 use Rattle.tier_protocol.proofs.Steps.{base_alone, found_sound, shown}
 use Rattle.tier_protocol.proofs.Truth.{reads_true, writes_true}
 use Rattle.tier_protocol.proofs.Worlds.{left_whole}
-use Rattle.tier_owners.specs.Moving.{IsHeld, IsRun, System}
+use Rattle.tier_owners.specs.Moving.{IsHeld, System}
 use Rattle.tier_owners.specs.Runs.{IsFaithful, RunsAreFaithful, TakenIsLost, attached}
 use Rattle.tier_owners.proofs.Closing.{found_owned}
 use Rattle.tier_owners.proofs.Histories.{history_grows, legal_act_once}

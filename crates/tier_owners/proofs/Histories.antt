@@ -1,25 +1,23 @@
 -- What moves do to the history: it grows, by acts of calls that are open, and no request id acts
 -- twice.
-use Rattle.std.proofs.Common.{◌≡◌, ◌≢◌, ◌⊎◌, ℕ, Bool, true, false, List, [], ◌∷◌, ◌++◌, Some, unwrap_or, refl, sym, ap, subst, ◌∙◌, arith, inl, inr}
+use Rattle.std.proofs.Common.{◌≡◌, ◌⊎◌, ℕ, Bool, true, false, List, [], ◌∷◌, ◌++◌, Some, unwrap_or, refl, sym, ap, subst, ◌∙◌, arith, inl, inr}
 use Rattle.std.specs.Prelude.{if◌then◌else◌, ◌==◌}
 use Rattle.obj_model.specs.States.{unknown}
-use Rattle.obj_model.specs.declared.reply.Reply.{Reply}
 use Rattle.obj_model.specs.declared.req.Req.{Req}
-use Rattle.obj_model.specs.declared.state.NameState.{NameState}
 use Rattle.obj_ops.specs.declared.request.Acted.{Acted}
 use Rattle.obj_ops.specs.declared.request.Acted.TheVariants.{Fresh, Again, Stale, Worn}
 use Rattle.obj_ops.specs.Acts.{act, kept_of}
 use Rattle.obj_ops.specs.Stores.{Store, replay, state_of, store_after}
 use Rattle.obj_laws.specs.Requests.{HasTid}
 use Rattle.obj_laws.proofs.Requesting.{acts_count, tids_stay}
-use Rattle.tier_protocol.specs.Tiers.{Name, Tier, BaseMsg, IsIn}
+use Rattle.tier_protocol.specs.Tiers.{Tier, IsIn}
 use Rattle.tier_protocol.specs.Sound.{AreFresh, Covers, is_fresh, is_past}
 use Rattle.tier_protocol.specs.Owners.{CallAct, IsOpen}
 use Rattle.tier_protocol.proofs.Cells.{get_here}
 use Rattle.tier_protocol.proofs.Owners.{acts_for, in_more}
 use Rattle.tier_protocol.proofs.Requests.{keeps_past}
 use Rattle.tier_owners.specs.Moving.{IsHeld, IsRun, Moves, System, with_tier, delivers, acts_there, fills, acts_here, gathers, promotes, cleans, drains, evicts, begins_write, begins, sends_write, sends, lands, loses, stops_cache, stops_base, raises, finds, counts, goes_up, asks, closes}
-use Rattle.tier_owners.specs.Runs.{ClosedActNoMore, GoesOn, HaveOneId, HistoryGrows, IdsActOnce, LegalActOnce}
+use Rattle.tier_owners.specs.Runs.{ClosedActNoMore, GoesOn, HaveOneId, HistoryGrows, LegalActOnce}
 use Rattle.tier_owners.proofs.Keeping.{moves_keep}
 
 -- ---- what one move does to the history and to the calls that are closed

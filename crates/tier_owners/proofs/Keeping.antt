@@ -1,14 +1,13 @@
 -- Each move keeps what holds, and so does each run.
-use Rattle.std.proofs.Common.{◌≡◌, ◌≢◌, ◌<◌, ◌≤◌, ◌⊎◌, ℕ, Bool, true, false, List, [], ◌∷◌, ◌++◌, map, Option, Some, None, refl, sym, ap, subst, ◌∙◌, arith, inl, inr}
-use Rattle.obj_model.specs.declared.req.Req.{Req}
+use Rattle.std.proofs.Common.{false, List, [], ◌∷◌, ◌++◌, Some, None, refl, sym, subst, inl, inr}
 use Rattle.tier_protocol.specs.Tiers.{Flight, Tier, BaseMsg, IsIn}
 use Rattle.tier_protocol.specs.Sound.{IsSound}
-use Rattle.tier_protocol.specs.Moves.{delivered, filled}
-use Rattle.tier_protocol.specs.Owners.{CallAct, Ledger, Quiet, SoundOwners}
+use Rattle.tier_protocol.specs.Moves.{filled}
+use Rattle.tier_protocol.specs.Owners.{Quiet}
 use Rattle.tier_protocol.proofs.Delivers.{delivering, filling}
-use Rattle.tier_protocol.proofs.Owners.{acts_for, in_more, losses_quiet, quiet_keeps}
+use Rattle.tier_protocol.proofs.Owners.{acts_for, losses_quiet, quiet_keeps}
 use Rattle.tier_protocol.proofs.Steps.{acting, beginning, cleaning, counting, evicting, finding, gathering, going_up, landing, losing, promoting, raising, sending, stopping}
-use Rattle.tier_owners.specs.Moving.{IsHeld, IsRun, MayActThere, Moves, System, with_tier, delivers, acts_there, fills, acts_here, gathers, promotes, cleans, drains, evicts, begins_write, begins, sends_write, sends, lands, loses, stops_cache, stops_base, raises, finds, counts, goes_up, asks, closes}
+use Rattle.tier_owners.specs.Moving.{IsHeld, IsRun, System, with_tier, delivers, acts_there, fills, acts_here, gathers, promotes, cleans, drains, evicts, begins_write, begins, sends_write, sends, lands, loses, stops_cache, stops_base, raises, finds, counts, goes_up, asks, closes}
 use Rattle.tier_owners.specs.Runs.{MovesKeep, RunsKeep}
 use Rattle.tier_owners.proofs.Acting.{acting_owned}
 use Rattle.tier_owners.proofs.Closing.{asking_owned, closing_owned}

@@ -6,3 +6,4 @@ pub mod Closing
 pub mod Keeping
 pub mod Histories
 pub mod Faithful
+pub mod Guides

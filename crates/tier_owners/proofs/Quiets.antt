@@ -1,12 +1,11 @@
 -- Moves that are quiet: they leave the base's states and the history, send nothing, and begin no
 -- write.
-use Rattle.std.proofs.Common.{◌≡◌, ◌≢◌, ◌<◌, ◌≤◌, ◌⊎◌, ℕ, ◌+◌, Bool, true, false, List, [], ◌∷◌, ◌++◌, Option, Some, None, refl, sym, ap, subst, ◌∙◌, arith, inl, inr}
+use Rattle.std.proofs.Common.{◌≡◌, ◌≢◌, ◌≤◌, ℕ, ◌+◌, false, Option, Some, None, refl, sym, ap, subst, ◌∙◌, arith, inl, inr}
 use Rattle.obj_model.specs.declared.reply.Reply.{Reply}
 use Rattle.obj_model.specs.declared.req.Req.{Req}
 use Rattle.tier_types.specs.Flights.{is_write}
 use Rattle.tier_types.specs.Serving.{replies}
-use Rattle.tier_protocol.specs.Tiers.{Name, Flight, TierRec, BaseMsg, BaseReply, BaseActed, Phase, Net, Tier, IsIn, cell_of}
-use Rattle.tier_protocol.specs.Memory.{IsGiven}
+use Rattle.tier_protocol.specs.Tiers.{Name, Flight, TierRec, BaseMsg, BaseReply, BaseActed, Phase, Tier, cell_of}
 use Rattle.tier_protocol.specs.Sound.{IsSound}
 use Rattle.tier_protocol.specs.Moves.{begun, counted_raised, epoch_found, held, raised_to, went_up, with_flight, with_net, with_rec, with_reply, with_served, MayCount, MayRaise}
 use Rattle.tier_protocol.specs.Owners.{Ledger, Quiet, SoundOwners}

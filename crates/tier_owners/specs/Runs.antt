@@ -1,15 +1,15 @@
 -- What holds over every run of moves.
-use Rattle.std.specs.Prelude.{◌≡◌, ◌≢◌, ◌≤◌, ◌<◌, ℕ, true, List, [], ◌∷◌, ◌++◌, map, Option, Some, None}
+use Rattle.std.specs.Prelude.{◌≡◌, ◌≤◌, ◌<◌, ℕ, true, List, ◌∷◌, ◌++◌, map, Option, Some, None}
 use Rattle.obj_model.specs.declared.req.Req.{Req}
 use Rattle.obj_ops.specs.declared.reading.Looked.{Looked}
 use Rattle.obj_ops.specs.Acts.{act, look}
 use Rattle.obj_ops.specs.Stores.{Store, replay, state_of}
 use Rattle.tier_types.specs.Serving.{lasting}
 use Rattle.tier_protocol.specs.Tiers.{Name, Flight, ReadFlight, BaseMsg, BaseReply, BaseActed, TierRec, Recs, Tier, IsIn, cell_of}
-use Rattle.tier_protocol.specs.Sound.{AreFresh, IsSound}
+use Rattle.tier_protocol.specs.Sound.{AreFresh}
 use Rattle.tier_protocol.specs.Laws.{StandsFor, found}
 use Rattle.tier_protocol.specs.Moves.{MayLand, Loses, delivered, taken}
-use Rattle.tier_protocol.specs.Owners.{CallAct, HasNoAct, Ledger, SoundOwners}
+use Rattle.tier_protocol.specs.Owners.{CallAct}
 use Rattle.tier_owners.specs.Calls.{blank}
 use Rattle.tier_owners.specs.Moving.{IsHeld, IsRun, Moves, System}
 

@@ -9,6 +9,7 @@
 #![tactic(auto)]
 
 mod owning;
+mod reaching;
 mod running;
 
 pub use owning::{
@@ -17,6 +18,7 @@ pub use owning::{
     landed_may_close, readers_may_close, sending_keeps_owners, unsent_may_close,
     writing_keeps_owners,
 };
+pub use reaching::{starts_run, writes_run};
 pub use running::{
     closed_act_no_more, history_grows, legal_act_once, moves_keep, runs_are_faithful, runs_keep,
     taken_is_lost,
