@@ -2,3 +2,4 @@ pub mod Calls
 pub mod Moving
 pub mod Runs
 pub mod Reaching
+pub mod QuietMoves

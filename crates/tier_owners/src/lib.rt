@@ -9,6 +9,7 @@
 #![tactic(auto)]
 
 mod owning;
+mod quieting;
 mod reaching;
 mod running;
 
@@ -17,6 +18,10 @@ pub use owning::{
     closing_keeps_owners, counting_keeps_owners, delivering_keeps_owners, found_is_owned,
     landed_may_close, readers_may_close, sending_keeps_owners, unsent_may_close,
     writing_keeps_owners,
+};
+pub use quieting::{
+    beginning_is_quiet, cleaning_is_quiet, evicting_is_quiet, filling_is_quiet, gathering_is_quiet,
+    going_up_is_quiet, landing_is_quiet, promoting_is_quiet, raising_is_quiet, replying_is_quiet,
 };
 pub use reaching::{starts_run, writes_run};
 pub use running::{
