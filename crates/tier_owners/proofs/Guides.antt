@@ -23,10 +23,17 @@ starts_run s h down = record {
   moments = first ∷ second ∷ third ∷ with_tier third (went_up third.tier) ∷ [];
   run = (
     raises e (record { stopped = down; later = omega arith; above = omega arith }),
-    (sends (BaseMsg.Fence e) (refl, λ same. absurd (cc)) refl,
-    (delivers (BaseMsg.Fence e) (inl refl) refl,
-    (goes_up (subst (λ t. MayGoUp t.net) (sym is)
-    (record { raised = λ same. absurd (cc); reply = inl refl })), tt))),
+    (
+      sends (BaseMsg.Fence e) (refl, λ same. absurd (cc)) refl,
+      (
+        delivers (BaseMsg.Fence e) (inl refl) refl,
+        (
+          goes_up (subst (λ t. MayGoUp t.net) (sym is)
+              (record { raised = λ same. absurd (cc); reply = inl refl })),
+          tt,
+        ),
+      ),
+    ),
   );
   last = with_tier third (went_up third.tier);
   on = inr (inr (inr (inl refl)));

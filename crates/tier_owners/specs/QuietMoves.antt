@@ -1,6 +1,6 @@
 -- Moves that leave the base's states and the history, send nothing, and begin no write request: the
 -- owners are as they were (`quiet_keeps`).
-use Rattle.std.specs.Prelude.{◌≡◌, ◌≤◌, ◌<◌, ℕ, Bool, false, List, Option, Some}
+use Rattle.std.specs.Prelude.{◌≡◌, ℕ, false, List, Some}
 use Rattle.copy_chunk.specs.declared.chunk.Chunk.{Chunk}
 use Rattle.obj_model.specs.declared.reply.Reply.{Reply}
 use Rattle.obj_model.specs.declared.state.NameState.{NameState}
@@ -55,7 +55,7 @@ BeginningIsQuiet =
 abbrev pub RaisingIsQuiet : Type 0
 RaisingIsQuiet =
     (t : Tier) (e : ℕ) → IsSound t → MayRaise t e → Quiet t (raised_to e t)
-        × Quiet t (epoch_found e t)
+    × Quiet t (epoch_found e t)
 
 -- the cache goes up
 abbrev pub GoingUpIsQuiet : Type 0
