@@ -138,7 +138,8 @@ landed_closes t l k driver owner op r b h w may = record { idle = idle; spent = 
 
     told : act (cell_of t k).base r ≡ lasting b
     told =
-        (h.names k).told (BaseReply.Wrote t.net.cache_epoch op b) may.reply refl driver owner r may.flight
+        (h.names k).told (BaseReply.Wrote t.net.cache_epoch op b) may.reply refl driver owner r
+        may.flight
 
     here : IsSpent k (cell_of t k) t.net r
     here =

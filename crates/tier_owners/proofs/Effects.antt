@@ -20,7 +20,8 @@ pub record OneMore (s u : System) : Type 0 where
   pub acts : u.ledger.acts ≡ s.ledger.acts ++ new ∷ []
   pub free : IsHeld s → IsOpen s.ledger new.call
   pub answered : IsHeld s
-      → (state : NameState) × (act (cell_of s.tier new.req.name).plain new.req ≡ Fresh state new.reply)
+      → (state : NameState) × (act (cell_of s.tier new.req.name).plain new.req ≡ Fresh state
+      new.reply)
 
 pub record Effect (s u : System) : Type 0 where
   pub opening : u.tier.opening ≡ s.tier.opening
@@ -42,7 +43,8 @@ effect s u (acts_there e op r state answer o may) = record {
   acts = inr (record {
     new = record { call = o.call; line = o.line; req = r; reply = answer };
     acts = refl;
-    free = λ h. (acts_for s.tier s.ledger e op r state answer o h.sound h.owners may.on may.level may.acts
+    free = λ h. (acts_for s.tier s.ledger e op r state answer o h.sound h.owners may.on may.level
+        may.acts
         may.owned (may.epoch, may.opid, may.req)).0;
     answered = λ h.
         (state, acts_on_plain s.tier e op r state answer h.sound may.on may.level may.acts);

@@ -32,11 +32,21 @@ pub runs_faithful : RunsAreFaithful
 runs_faithful recs base plain e f us stands low run u (inl same) =
     subst (IsFaithful plain) (sym same)
     (faithful_to_own (attached recs base plain e f)
-    (record { sound = found_sound recs base plain e f stands low; owners = found_owned recs base plain e f; answered = tt }))
+    (record {
+      sound = found_sound recs base plain e f stands low;
+      owners = found_owned recs base
+          plain e f;
+      answered = tt;
+    }))
 runs_faithful recs base plain e f us stands low run u (inr on) =
     subst (λ p. IsFaithful p u) (history_grows (attached recs base plain e f) us run u on).opening
     (faithful_to_own u (runs_keep (attached recs base plain e f) us
-    (record { sound = found_sound recs base plain e f stands low; owners = found_owned recs base plain e f; answered = tt })
+    (record {
+      sound = found_sound recs base plain e f stands low;
+      owners = found_owned recs base
+          plain e f;
+      answered = tt;
+    })
     run u on))
 
 pub taken_is_lost : TakenIsLost

@@ -82,7 +82,8 @@ run_closed (v ∷ us) s call h run shut u (inr on) a is mine =
     mine
 
 pub closed_act_no_more : ClosedActNoMore
-closed_act_no_more s us call h run shut u on a is mine = run_closed us s call h run shut u on a is mine
+closed_act_no_more s us call h run shut u on a is mine = run_closed us s call h run shut u on a is
+    mine
 
 -- ---- request ids
 

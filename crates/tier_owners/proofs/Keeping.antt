@@ -66,7 +66,8 @@ two_keep s u h (sends_write op r driver owner line f asked) = (
     refl,
     (driver, owner, f),
   ),
-  writing_owned s.tier s.ledger s.tier.net.cache_epoch op r driver owner line h.sound h.owners refl f asked,
+  writing_owned s.tier s.ledger s.tier.net.cache_epoch op r driver owner line h.sound h.owners refl
+      f asked,
 )
 two_keep s u h (sends m may plain) = (
   sending s.tier m h.sound may,

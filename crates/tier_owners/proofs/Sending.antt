@@ -70,7 +70,14 @@ beginning_owned t l k driver owner op line r h w may asked free = record {
         → SoundWriting (begun k flight t) l n v j q
     old n d v j q f =
         let x = w.writing n d v j q f in
-        record { line = x.line; asked = x.asked; pending = x.pending; acted = x.acted; own = x.own; told = x.told }
+        record {
+          line = x.line;
+          asked = x.asked;
+          pending = x.pending;
+          acted = x.acted;
+          own = x.own;
+          told = x.told;
+        }
 
     -- what begins: nothing of it was sent, and nothing replied
     as_new : SoundWriting (begun k flight t) l k owner op r
@@ -238,7 +245,14 @@ sending_owned t l m h w may plain = record {
     ]
   ];
   writing = λ n d v j q g. let x = w.writing n d v j q g in
-      record { line = x.line; asked = x.asked; pending = x.pending; acted = x.acted; own = x.own; told = x.told };
+      record {
+        line = x.line;
+        asked = x.asked;
+        pending = x.pending;
+        acted = x.acted;
+        own = x.own;
+        told = x.told;
+      };
 }
   where
     no_write : (i j : ℕ) (q : Req) → BaseMsg.Write i j q ≡ m → ⊥

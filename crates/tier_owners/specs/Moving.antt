@@ -87,8 +87,13 @@ pub data Moves (s : System) : System → Type 0 where
       → HasAsked s.ledger owner line r
       → Moves s (record {
         tier = sent (BaseMsg.Write s.tier.net.cache_epoch op r) s.tier;
-        ledger = with_owned (record { epoch = s.tier.net.cache_epoch; opid = op; req = r; call = owner; line = line })
-            s.ledger;
+        ledger = with_owned (record {
+          epoch = s.tier.net.cache_epoch;
+          opid = op;
+          req = r;
+          call = owner;
+          line = line;
+        }) s.ledger;
       })
   sends : (m : BaseMsg) → MaySend s.tier m → is_write_message m ≡ false
       → Moves s (with_tier s (sent m s.tier))
