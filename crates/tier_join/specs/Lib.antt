@@ -1,0 +1,4 @@
+pub mod Maps
+pub mod Group
+pub mod Promises
+pub mod Steps
