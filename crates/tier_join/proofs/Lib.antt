@@ -1,3 +1,5 @@
 pub mod Left
 pub mod Commits
 pub mod Keys
+pub mod MemoryMoves
+pub mod Rests

@@ -225,3 +225,10 @@ act_of (BaseMsg.Install e op k s) store = store
 abbrev pub HasStateFor : View → Option Name → NameState → Type 0
 HasStateFor v None s = s ≡ unknown
 HasStateFor v (Some k) s = HasState v k s
+
+-- the plain store with the act in doubt, where there is one
+abbrev pub with_doubt : Option Doubt → Store → Store
+with_doubt None store = store
+with_doubt (Some (Doubt.Plain pool name)) store = store
+with_doubt (Some (Doubt.Act pool q seq)) store = with_req q store
+with_doubt (Some (Doubt.Epoch pool e)) store = store
