@@ -3,3 +3,4 @@ pub mod Commits
 pub mod Keys
 pub mod MemoryMoves
 pub mod Rests
+pub mod CacheSteps

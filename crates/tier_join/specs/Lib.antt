@@ -2,3 +2,4 @@ pub mod Maps
 pub mod Group
 pub mod Promises
 pub mod Steps
+pub mod Laws
