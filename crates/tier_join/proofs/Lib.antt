@@ -4,3 +4,4 @@ pub mod Keys
 pub mod MemoryMoves
 pub mod Rests
 pub mod CacheSteps
+pub mod BaseSteps

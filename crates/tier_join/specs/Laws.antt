@@ -12,15 +12,17 @@ use Rattle.obj_model.specs.declared.state.NameState.{NameState}
 use Rattle.obj_ops.specs.declared.request.Acted.TheVariants.{Fresh}
 use Rattle.obj_ops.specs.Acts.{act}
 use Rattle.obj_ops.specs.Stores.{Store, replay}
-use Rattle.store_face.specs.Tables.{Table}
+use Rattle.rec_codec.specs.Spelling.{SpellsState}
 use Rattle.store_face.specs.Views.{Holds, Sound, StoreView}
 use Rattle.store_face.specs.declared.fault.StoreFault.{StoreFault}
-use Rattle.tier_protocol.specs.Moves.{acted_here, cleaned, drained, evicted, promoted, raised_to, with_flight, MayActHere, MayClean, MayEvict, MayPromote}
-use Rattle.tier_protocol.specs.Tiers.{Name, Ask, Phase, TierRec}
+use Rattle.tier_types.specs.Flights.{IsLeftOf}
+use Rattle.tier_types.specs.Serving.{Served, name_in, replies, served}
+use Rattle.tier_protocol.specs.Moves.{acted_here, begun, cleaned, drained, evicted, gathered, landed, promoted, raised_to, sent, stopped_base, stopped_cache, went_up, with_flight, with_served, MayActHere, MayBegin, MayClean, MayEvict, MayGather, MayGoUp, MayLand, MayPromote, MaySend}
+use Rattle.tier_protocol.specs.Tiers.{Name, Ask, AreIn, BaseActed, BaseMsg, BaseReply, Flight, Flights, IsIn, Phase, TierRec}
 use Rattle.tier_join.specs.Group.{Doubt, Memory, View, IsGroup, store_now}
 use Rattle.tier_join.specs.Maps.{IsRecOf, IsStateOf, SpellsEpoch, epoch_key, record_key, state_key}
 use Rattle.tier_join.specs.Promises.{Promises, as_it_is, with_req}
-use Rattle.tier_join.specs.Steps.{Commits, HasRec, HasState, Outcome, Owes, OwesMemory, OwesWorlds, Rests, after, seen, sets, unless_disk, with_doubt}
+use Rattle.tier_join.specs.Steps.{Commits, HasRec, HasRecFor, HasState, HasStateFor, IsOver, Outcome, Owes, OwesMemory, OwesWorlds, Rests, act_of, after, doubt_of, left_with, no_space, seen, sets, subject, unless_disk, with_doubt}
 
 -- ---- all steps
 
@@ -134,3 +136,89 @@ RaisingPromises =
     → Commits Cache (sets epoch_key (Some bytes)) (after (raised_to e) v.memory) (unless_disk v.memory v.memory)
     (Doubt.Epoch Cache e) result v w
     → Promises as_it_is v w
+
+-- ---- messages that the base is given
+
+-- a message that changes nothing in the base is answered by what was read there
+abbrev pub AnsweringPromises : Type 0
+AnsweringPromises =
+    (v w : View) (msg : BaseMsg) (s : NameState) (out : Served)
+    → v.doubt ≡ None → IsIn msg v.memory.net.wire → HasStateFor v (name_in msg) s
+    → served v.memory.net.base_epoch s msg ≡ out → out.put ≡ None → out.epoch ≡ v.memory.net.base_epoch
+    → Rests v w → w.memory ≡ after (with_served msg out) v.memory → Promises as_it_is v w
+
+-- A message that puts a state: a Write that acts, or an Install of more requests. Where there is no space
+-- for the commit the base replies so.
+abbrev pub PuttingPromises : Type 0
+PuttingPromises =
+    (v w : View) (msg : BaseMsg) (k : Name) (s t : NameState) (out : Served) (bytes : List ℕ) (result : Outcome)
+    → v.doubt ≡ None → IsIn msg v.memory.net.wire → name_in msg ≡ Some k → HasState v k s
+    → served v.memory.net.base_epoch s msg ≡ out → out.put ≡ Some t → out.epoch ≡ v.memory.net.base_epoch
+    → name_fault k ≡ None → SpellsState bytes t → IsOver result
+    → Commits Base (sets (state_key k) (Some bytes)) (after (with_served msg out) v.memory) (no_space msg v.memory)
+    (doubt_of msg t.seq) result v w
+    → Promises (act_of msg) v w
+
+-- a Fence of a later epoch
+abbrev pub FencingPromises : Type 0
+FencingPromises =
+    (v w : View) (e : ℕ) (bytes : List ℕ) (result : Outcome)
+    → v.doubt ≡ None → IsIn (BaseMsg.Fence e) v.memory.net.wire → v.memory.net.base_epoch < e
+    → SpellsEpoch bytes e → IsOver result
+    → Commits Base (sets epoch_key (Some bytes))
+    (after (with_served (BaseMsg.Fence e) (replies e (BaseReply.Fenced e))) v.memory)
+    (no_space (BaseMsg.Fence e) v.memory) (Doubt.Epoch Base e) result v w
+    → Promises as_it_is v w
+
+-- ---- memory alone
+
+-- work begins
+abbrev pub BeginningPromises : Type 0
+BeginningPromises =
+    (v w : View) (k : Name) (f : Flight) (rec : Option TierRec)
+    → v.doubt ≡ None → HasRec v k rec → v.memory.net.phase ≡ Phase.Up → MayBegin (seen v.memory k rec) k f
+    → Rests v w → w.memory ≡ after (begun k f) v.memory → Promises as_it_is v w
+
+-- work sends its message, at first or again; or a Fence is sent
+abbrev pub SendingPromises : Type 0
+SendingPromises =
+    (v w : View) (msg : BaseMsg) (rec : Option TierRec)
+    → v.doubt ≡ None → HasRecFor v msg rec → MaySend (seen v.memory (subject msg) rec) msg
+    → Rests v w → w.memory ≡ after (sent msg) v.memory → Promises as_it_is v w
+
+-- a promotion takes the chunk that it wants
+abbrev pub GatheringPromises : Type 0
+GatheringPromises =
+    (v w : View) (k : Name) (call op : ℕ) (gather : List Chunk) (ask : Ask) (x : Chunk)
+    → v.doubt ≡ None → MayGather (seen v.memory k None) k call op gather ask x
+    → Rests v w → w.memory ≡ after (gathered k call op gather ask x) v.memory → Promises as_it_is v w
+
+-- a proxied write lands
+abbrev pub LandingPromises : Type 0
+LandingPromises =
+    (v w : View) (k : Name) (driver : Option ℕ) (owner op : ℕ) (r : Req) (a : BaseActed)
+    → v.doubt ≡ None → MayLand (seen v.memory k None) k driver owner op r a
+    → Rests v w → w.memory ≡ after (landed k) v.memory → Promises as_it_is v w
+
+-- ---- what may come at any moment, in a doubt too
+
+-- messages and replies are lost, or lie in another order; calls end, and drop or leave their work
+abbrev pub LosingPromises : Type 0
+LosingPromises =
+    (v w : View) (flights : Flights) (wire : List BaseMsg) (replies : List BaseReply)
+    → ((n : Name) → IsLeftOf (fin.get v.memory.flights n) (fin.get flights n))
+    → AreIn wire v.memory.net.wire → AreIn replies v.memory.net.replies
+    → Rests v w → w.memory ≡ left_with flights wire replies v.memory → Promises (with_doubt v.doubt) v w
+
+-- either pool stops
+abbrev pub StoppingPromises : Type 0
+StoppingPromises =
+    (v w : View) → Rests v w
+    → (w.memory ≡ after stopped_cache v.memory → Promises (with_doubt v.doubt) v w)
+    × (w.memory ≡ after stopped_base v.memory → Promises (with_doubt v.doubt) v w)
+
+-- Fenced of the cache's epoch is received
+abbrev pub GoingUpPromises : Type 0
+GoingUpPromises =
+    (v w : View) → MayGoUp v.memory.net → Rests v w → w.memory ≡ after went_up v.memory
+    → Promises (with_doubt v.doubt) v w

@@ -16,7 +16,7 @@ use Rattle.store_face.specs.declared.fault.StoreFault.{StoreFault}
 use Rattle.store_face.specs.declared.fault.StoreFault.TheVariants.{Disk, BadImage, NoSpace, Worn, NoMemory}
 use Rattle.tier_protocol.specs.Moves.{counted_raised, epoch_found, filled, set_at}
 use Rattle.tier_protocol.specs.Sound.{IsSound}
-use Rattle.tier_protocol.specs.Tiers.{Name, BaseMsg, Phase, Recs, Tier, TierRec}
+use Rattle.tier_protocol.specs.Tiers.{Name, BaseMsg, BaseReply, Flights, Phase, Recs, Tier, TierRec}
 use Rattle.tier_join.specs.Group.{Doubt, Memory, TwoMaps, View, ActIsNext, AreLeft, EpochIsNext, IsSoundMemory, ShowsIn, Spells, SpellsDoubt, changed_in, store_in, tier_of, with_act, with_epoch, with_store}
 use Rattle.tier_join.specs.Maps.{IsEpochOf, IsLeft, IsRecOf, IsStateOf, epoch_key, record_key, state_key}
 use Rattle.tier_join.specs.Promises.{with_req}
@@ -232,3 +232,24 @@ with_doubt None store = store
 with_doubt (Some (Doubt.Plain pool name)) store = store
 with_doubt (Some (Doubt.Act pool q seq)) store = with_req q store
 with_doubt (Some (Doubt.Epoch pool e)) store = store
+
+-- the name that a message is about; a Fence is about none
+abbrev pub subject : BaseMsg → Name
+subject (BaseMsg.Fence e) = []
+subject (BaseMsg.GetChunk e op k at) = k
+subject (BaseMsg.Look e op k v) = k
+subject (BaseMsg.Write e op r) = r.name
+subject (BaseMsg.Install e op k s) = k
+
+-- what the cache read for a message that it sends: the record of which an Install has the state
+abbrev pub HasRecFor : View → BaseMsg → Option TierRec → Type 0
+HasRecFor v (BaseMsg.Fence e) rec = Unit {0}
+HasRecFor v (BaseMsg.GetChunk e op k at) rec = Unit {0}
+HasRecFor v (BaseMsg.Look e op k w) rec = Unit {0}
+HasRecFor v (BaseMsg.Write e op r) rec = Unit {0}
+HasRecFor v (BaseMsg.Install e op k s) rec = HasRec v k rec
+
+-- memory with this work, these messages and these replies
+abbrev pub left_with : Flights → List BaseMsg → List BaseReply → Memory → Memory
+left_with flights wire replies m =
+    record m { flights = flights; net = record m.net { wire = wire; replies = replies } }
