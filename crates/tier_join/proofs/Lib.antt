@@ -5,3 +5,5 @@ pub mod MemoryMoves
 pub mod Rests
 pub mod CacheSteps
 pub mod BaseSteps
+pub mod MemorySteps
+pub mod Opening

@@ -13,6 +13,7 @@ use Rattle.obj_ops.specs.declared.request.Acted.TheVariants.{Fresh}
 use Rattle.obj_ops.specs.Acts.{act}
 use Rattle.obj_ops.specs.Stores.{Store, replay}
 use Rattle.rec_codec.specs.Spelling.{SpellsState}
+use Rattle.store_face.specs.Calls.{Among, Reopened}
 use Rattle.store_face.specs.Views.{Holds, Sound, StoreView}
 use Rattle.store_face.specs.declared.fault.StoreFault.{StoreFault}
 use Rattle.tier_types.specs.Flights.{IsLeftOf}
@@ -22,7 +23,7 @@ use Rattle.tier_protocol.specs.Tiers.{Name, Ask, AreIn, BaseActed, BaseMsg, Base
 use Rattle.tier_join.specs.Group.{Doubt, Memory, View, IsGroup, store_now}
 use Rattle.tier_join.specs.Maps.{IsRecOf, IsStateOf, SpellsEpoch, epoch_key, record_key, state_key}
 use Rattle.tier_join.specs.Promises.{Promises, as_it_is, with_req}
-use Rattle.tier_join.specs.Steps.{Commits, HasRec, HasRecFor, HasState, HasStateFor, IsOver, Outcome, Owes, OwesMemory, OwesWorlds, Rests, act_of, after, doubt_of, left_with, no_space, seen, sets, subject, unless_disk, with_doubt}
+use Rattle.tier_join.specs.Steps.{Commits, HasRec, HasRecFor, HasState, HasStateFor, IsOver, Opens, Outcome, Owes, OwesMemory, OwesWorlds, Rests, act_of, after, doubt_of, left_with, no_space, seen, sets, subject, unless_disk, with_doubt}
 
 -- ---- all steps
 
@@ -222,3 +223,14 @@ abbrev pub GoingUpPromises : Type 0
 GoingUpPromises =
     (v w : View) → MayGoUp v.memory.net → Rests v w → w.memory ≡ after went_up v.memory
     → Promises (with_doubt v.doubt) v w
+
+-- ---- a store is opened anew
+
+-- whatever a reopening answers, each moment since leaves what was left before
+abbrev pub ReopeningsAreAmong : Type 0
+ReopeningsAreAmong = (old new : StoreView) (result : Outcome) → Reopened old new result → Among old new
+
+-- The opening of either pool's store, that went well or not, with each kind of doubt, its own or the other
+-- pool's, settled the one way or the other.
+abbrev pub OpeningPromises : Type 0
+OpeningPromises = (pool : Pool) (v w : View) → Opens pool v w → Promises (with_doubt v.doubt) v w
