@@ -36,7 +36,7 @@ use Rattle.tier_join.proofs.Rests.{memory_promises}
 
 -- ---- what was read
 
-state_is : (start : Store) (v : View) (z : TwoMaps) (name : Option Name) (s : NameState) → HasStateFor v name s → AreLeft v z → (h : Spells start v.memory z) → state_for name h.base ≡ s
+pub state_is : (start : Store) (v : View) (z : TwoMaps) (name : Option Name) (s : NameState) → HasStateFor v name s → AreLeft v z → (h : Spells start v.memory z) → state_for name h.base ≡ s
 state_is start v z None s has i h = sym has
 state_is start v z (Some k) s has i h = same_state (fin.get z.base (state_key k)) (state_of h.base k) s (h.based.each k) (has z.base i.1)
 

@@ -7,3 +7,5 @@ pub mod CacheSteps
 pub mod BaseSteps
 pub mod MemorySteps
 pub mod Opening
+pub mod Ends
+pub mod Groups

@@ -1,0 +1,27 @@
+-- The general laws, as the crate's calls promise them.
+use Rattle.std.proofs.Common.{◌≡◌}
+use Rattle.store_face.specs.Tables.{Table}
+use Rattle.std.specs.FinMap as fin
+use Rattle.tier_join.specs.Laws.{CommitsPromise, GroupsGoOn, MemoryPromises, ReadingsHold, StepsJoin, WorldsPromise}
+use Rattle.tier_join.specs.Maps.{IsRecOf, IsStateOf, record_key, state_key}
+use Rattle.tier_join.proofs.Commits.{commit_promises}
+use Rattle.tier_join.proofs.Left.{read_is_left}
+use Rattle.tier_join.proofs.Rests.{first_rests, memory_promises, then_rests, worlds_promise}
+
+pub groups_go_on : GroupsGoOn
+groups_go_on other v w p g = record {
+  memory = p.memory g.memory;
+  began = λ told. let b = g.began (p.told told) in (b.0, p.began b.0 (p.told told) b.1);
+}
+
+pub commits_promise : CommitsPromise
+commits_promise pool cs done left d result v w other acts owes step = commit_promises pool cs done left d result v w owes step other acts
+
+pub steps_join : StepsJoin
+steps_join = (then_rests, first_rests)
+
+pub readings_hold : ReadingsHold
+readings_hold = (
+  λ v k rec sound live holds. read_is_left v.cache (λ t. IsRecOf (fin.get t (record_key k)) rec) sound live holds,
+  λ v k s sound live holds. read_is_left v.base (λ t. IsStateOf (fin.get t (state_key k)) s) sound live holds,
+)
