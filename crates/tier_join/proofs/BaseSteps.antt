@@ -42,9 +42,8 @@ state_is start v z (Some k) s has i h = same_state (fin.get z.base (state_key k)
 
 -- a message is served by what was read
 module _ (start : Store) (v : View) (z : TwoMaps) (msg : BaseMsg) (s : NameState) (out : Served)
-  (on : IsIn msg v.memory.net.wire) (has : HasStateFor v (name_in msg) s) (is : served v.memory.net.base_epoch s msg ≡ out)
-  (i : AreLeft v z) (h : Spells start v.memory z) where
-
+    (on : IsIn msg v.memory.net.wire) (has : HasStateFor v (name_in msg) s) (is : served v.memory.net.base_epoch s msg ≡ out)
+    (i : AreLeft v z) (h : Spells start v.memory z) where
   abbrev T : Tier
   T = tier_of start v.memory h.recs h.base
 
@@ -142,10 +141,9 @@ acts_more msg k (Some u) t e (Installs f op s is) acts start =
     subst (λ x. replay start (acts_with x (Some u) acts) ≡ act_of x (replay start acts)) (sym is) refl
 
 module _ (v : View) (msg : BaseMsg) (k : Name) (s t : NameState) (out : Served) (bytes : List ℕ) (result : Outcome)
-  (none : v.doubt ≡ None) (on : IsIn msg v.memory.net.wire) (name : name_in msg ≡ Some k) (has : HasState v k s)
-  (is : served v.memory.net.base_epoch s msg ≡ out) (put : out.put ≡ Some t) (epoch : out.epoch ≡ v.memory.net.base_epoch)
-  (named : name_fault k ≡ None) (spelled : SpellsState bytes t) (over : IsOver result) where
-
+    (none : v.doubt ≡ None) (on : IsIn msg v.memory.net.wire) (name : name_in msg ≡ Some k) (has : HasState v k s)
+    (is : served v.memory.net.base_epoch s msg ≡ out) (put : out.put ≡ Some t) (epoch : out.epoch ≡ v.memory.net.base_epoch)
+    (named : name_fault k ≡ None) (spelled : SpellsState bytes t) (over : IsOver result) where
   has_for : HasStateFor v (name_in msg) s
   has_for = subst (λ n. HasStateFor v n s) (sym name) has
 

@@ -77,10 +77,9 @@ record_at (Some bytes) r h = (r, h, refl)
 -- A commit of a name's record. Where the disk fails it leaves the memory `rest`, in which the work on the
 -- name may be gone.
 module _ (v : View) (k : Name) (o : Option (List ℕ)) (rec : Option TierRec) (rest : Memory) (result : Outcome)
-  (none : v.doubt ≡ None) (named : name_fault k ≡ None) (spelled : IsRecOf o rec) (net : rest.net ≡ v.memory.net)
-  (frees : (start : Store) (z : TwoMaps) → AreLeft v z → Spells start v.memory z → Spells start rest z)
-  (sound : IsSoundMemory v.memory → IsSoundMemory rest) where
-
+    (none : v.doubt ≡ None) (named : name_fault k ≡ None) (spelled : IsRecOf o rec) (net : rest.net ≡ v.memory.net)
+    (frees : (start : Store) (z : TwoMaps) → AreLeft v z → Spells start v.memory z → Spells start rest z)
+    (sound : IsSoundMemory v.memory → IsSoundMemory rest) where
   -- memory is the same where it is made
   plain_owes : ((start : Store) (z : TwoMaps) → AreLeft v z → (h : Spells start v.memory z) → Moved start rest h.recs h.base k rec)
       → Owes Cache (sets (record_key k) o) rest (unless_disk rest v.memory) (Doubt.Plain Cache k) result v

@@ -81,14 +81,18 @@ surely start v none b z i = by (subst (λ o. Spells start v.memory z ⊎ SpellsA
 
 -- a pair stands for the store that its acts leave
 pub stands : (start : Store) (m : Memory) (z : TwoMaps) → Spells start m z → StandsFor z (replay start m.acts)
-stands start m z h = (m.net.cache_epoch, m.net.base_epoch, record {
-  recs = h.recs;
-  base = h.base;
-  cached = h.cached;
-  based = h.based;
-  stands = sound_stands (tier_of start m h.recs h.base) h.sound;
-  behind = h.sound.epochs.behind;
-})
+stands start m z h = (
+  m.net.cache_epoch,
+  m.net.base_epoch,
+  record {
+    recs = h.recs;
+    base = h.base;
+    cached = h.cached;
+    based = h.based;
+    stands = sound_stands (tier_of start m h.recs h.base) h.sound;
+    behind = h.sound.epochs.behind;
+  },
+)
 
 -- ---- the three things that may come of a commit
 
@@ -107,8 +111,7 @@ came cs d old new (Err (Worn limit)) h = inr (inr (Worn limit, refl, refl, h.3.m
 came cs d old new (Err NoMemory) h = inr (inr (NoMemory, refl, refl, h.moments))
 
 module _ (pool : Pool) (cs : List Change) (done : Memory) (left : StoreFault → Memory) (d : Doubt) (result : Outcome) (v w : View)
-  (owes : Owes pool cs done left d result v) (step : Commits pool cs done left d result v w) where
-
+    (owes : Owes pool cs done left d result v) (step : Commits pool cs done left d result v w) where
   abbrev S : StoreView
   S = store_in pool w
 

@@ -6,6 +6,6 @@ pub mod Rests
 pub mod CacheSteps
 pub mod BaseSteps
 pub mod MemorySteps
-pub mod Opening
-pub mod Ends
+pub mod Reopening
+pub mod Telling
 pub mod Groups

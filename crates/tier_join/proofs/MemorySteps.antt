@@ -25,7 +25,7 @@ use Rattle.tier_join.proofs.Rests.{memory_promises, worlds_promise}
 
 -- a move that keeps the pair sound and leaves the pools
 module _ (v w : View) (m : Memory) (none : v.doubt ≡ None)
-  (cache : m.net.cache_epoch ≡ v.memory.net.cache_epoch) (base : m.net.base_epoch ≡ v.memory.net.base_epoch) where
+    (cache : m.net.cache_epoch ≡ v.memory.net.cache_epoch) (base : m.net.base_epoch ≡ v.memory.net.base_epoch) where
   moves : ((start : Store) (z : TwoMaps) → AreLeft v z → (h : Spells start v.memory z) → IsSound (tier_of start m h.recs h.base))
       → (IsSoundMemory v.memory → IsSoundMemory m) → Rests v w → w.memory ≡ m → Promises as_it_is v w
   moves sound memory rests same = memory_promises v w (subst (OwesMemory v) (sym same) (record {

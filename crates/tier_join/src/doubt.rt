@@ -6,19 +6,9 @@ use obj_model::{Name, Pool, Req};
 pub enum Doubt {
     /// What the commit changes of this name is the same to memory: a record comes, is marked clean, or goes, or the
     /// base takes a state that the cache has.
-    Plain {
-        pool: Pool,
-        name: Name,
-    },
+    Plain { pool: Pool, name: Name },
     /// A request acted, which leaves its name with this `seq`.
-    Act {
-        pool: Pool,
-        req: Req,
-        seq: u64,
-    },
+    Act { pool: Pool, req: Req, seq: u64 },
     /// The pool is at this epoch.
-    Epoch {
-        pool: Pool,
-        epoch: u64,
-    },
+    Epoch { pool: Pool, epoch: u64 },
 }

@@ -7,6 +7,30 @@
 //! nothing: their contracts are the laws.
 #![tactic(auto)]
 
+mod base;
+mod cache;
 mod doubt;
+mod ends;
+mod general;
+mod memory;
+mod opening;
 
+pub use base::{answering_promises, fencing_promises, putting_promises};
+pub use cache::{
+    acting_promises, cleaning_promises, draining_promises, evicting_promises,
+    promoting_acts_promises, promoting_promises, raising_promises,
+};
 pub use doubt::Doubt;
+pub use ends::{
+    acts_are_plain, bares_are_plain, epochs_are_level, groups_begin, groups_begin_anew,
+    histories_are_legal, left_stands, promotions_are_plain, reads_are_plain, records_are_plain,
+    writes_are_plain,
+};
+pub use general::{
+    commits_promise, groups_go_on, memory_promises, readings_hold, steps_join, worlds_promise,
+};
+pub use memory::{
+    beginning_promises, gathering_promises, going_up_promises, landing_promises, losing_promises,
+    sending_promises, stopping_promises,
+};
+pub use opening::{opening_promises, reopenings_are_among};
