@@ -1,0 +1,5 @@
+pub mod Keys
+pub mod Epochs
+pub mod Entries
+pub mod Bases
+pub mod Leaving
