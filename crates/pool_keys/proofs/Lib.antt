@@ -3,3 +3,4 @@ pub mod Epochs
 pub mod Entries
 pub mod Bases
 pub mod Leaving
+pub mod Caches

@@ -15,8 +15,9 @@ use Rattle.store_face.specs.declared.fault.StoreFault.TheVariants.{Disk, BadImag
 use Rattle.pool_keys.specs.declared.key.PoolKey.{PoolKey}
 use Rattle.pool_keys.specs.Keys.{IsOf, epoch_key, record_key, state_key}
 use Rattle.pool_keys.specs.Left.{IsBefore, IsLeft, IsLeftSince, Tells}
-use Rattle.pool_keys.specs.Maps.{IsBaseMap, SpellsBase}
-use Rattle.pool_keys.specs.Values.{IsEpochOf, IsStateOf}
+use Rattle.pool_keys.specs.Maps.{IsBaseMap, IsCacheMap, Recs, SpellsBase, SpellsCache}
+use Rattle.pool_keys.specs.Values.{IsEpochOf, IsRecOf, IsStateOf}
+use Rattle.tier_types.specs.declared.record.TierRec.{TierRec}
 
 -- ---- keys
 
@@ -41,6 +42,10 @@ EpochIsOne = (value : Option (List ℕ)) (a b : ℕ) → IsEpochOf value a → I
 abbrev pub StateIsOne : Type 0
 StateIsOne = (value : Option (List ℕ)) (s t : NameState) → IsStateOf value s → IsStateOf value t → s ≡ t
 
+-- the cache has one record of a name, or none
+abbrev pub RecordIsOne : Type 0
+RecordIsOne = (value : Option (List ℕ)) (r q : Option TierRec) → IsRecOf value r → IsRecOf value q → r ≡ q
+
 -- a base's map stands for a plain store at an epoch
 pub record StandsForBase (y : Table) : Type 0 where
   pub base : Store
@@ -60,6 +65,22 @@ abbrev pub BaseIsOne : Type 0
 BaseIsOne =
     (y : Table) (base other : Store) (epoch later : ℕ) → SpellsBase y base epoch → SpellsBase y other later
     → SameStates base other × (epoch ≡ later)
+
+-- a cache's map stands for records at an epoch
+pub record StandsForCache (x : Table) : Type 0 where
+  pub recs : Recs
+  pub epoch : ℕ
+  pub spells : SpellsCache x recs epoch
+
+-- a cache's map whose keys and values are all spelled stands for records
+abbrev pub CacheStands : Type 0
+CacheStands = (x : Table) → IsCacheMap x → StandsForCache x
+
+-- a cache's map stands for one map of records, at one epoch
+abbrev pub CacheIsOne : Type 0
+CacheIsOne =
+    (x : Table) (recs others : Recs) (epoch later : ℕ) → SpellsCache x recs epoch → SpellsCache x others later
+    → (recs ≡ others) × (epoch ≡ later)
 
 -- ---- what a stop may leave
 

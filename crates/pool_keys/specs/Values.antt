@@ -4,7 +4,8 @@ use Rattle.byteorder.specs.Endian.{big_bytes}
 use Rattle.obj_model.specs.Limits.{number_limit}
 use Rattle.obj_model.specs.States.{unknown}
 use Rattle.obj_model.specs.declared.state.NameState.{NameState}
-use Rattle.rec_codec.specs.Spelling.{SpellsState}
+use Rattle.rec_codec.specs.Spelling.{SpellsState, SpellsTier}
+use Rattle.tier_types.specs.declared.record.TierRec.{TierRec}
 
 -- an epoch is a number from 1 to 2^62 in eight bytes, the highest first
 pub record SpellsEpoch (bytes : List ℕ) (epoch : ℕ) : Type 0 where
@@ -23,3 +24,10 @@ IsEpochOf (Some bytes) epoch = SpellsEpoch bytes epoch
 abbrev pub IsStateOf : Option (List ℕ) → NameState → Type 0
 IsStateOf None s = s ≡ unknown
 IsStateOf (Some bytes) s = SpellsState bytes s
+
+-- the cache has this record of a name, or none; without a value it has none
+abbrev pub IsRecOf : Option (List ℕ) → Option TierRec → Type 0
+IsRecOf None None = Unit {0}
+IsRecOf None (Some r) = ⊥
+IsRecOf (Some bytes) None = ⊥
+IsRecOf (Some bytes) (Some r) = SpellsTier bytes r.state r.dirty r.mtime

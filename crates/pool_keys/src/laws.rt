@@ -1,5 +1,5 @@
 //! Laws of keys and of the maps that they make.
-ghost use Rattle.pool_keys.specs.Laws.{BaseIsOne, BaseStands, EpochIsOne, KeyIsOne, KeysRise, StateIsOne};
+ghost use Rattle.pool_keys.specs.Laws.{BaseIsOne, BaseStands, CacheIsOne, CacheStands, EpochIsOne, KeyIsOne, KeysRise, RecordIsOne, StateIsOne};
 
 /// A key is of one kind, and of one name.
 #[tactic(auto, using(crate::proofs::Keys::key_one))]
@@ -36,4 +36,22 @@ pub fn base_stands()
 #[tactic(auto, using(crate::proofs::Bases::one))]
 pub fn base_is_one()
     ensures { BaseIsOne }
+{}
+
+/// The cache has one record of a name, or none.
+#[tactic(auto, using(crate::proofs::Caches::record_one))]
+pub fn record_is_one()
+    ensures { RecordIsOne }
+{}
+
+/// A cache's map whose keys and values are all spelled stands for records at an epoch.
+#[tactic(auto, using(crate::proofs::Caches::stands))]
+pub fn cache_stands()
+    ensures { CacheStands }
+{}
+
+/// It stands for one map of records only.
+#[tactic(auto, using(crate::proofs::Caches::one))]
+pub fn cache_is_one()
+    ensures { CacheIsOne }
 {}

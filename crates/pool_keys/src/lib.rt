@@ -14,7 +14,10 @@ mod left;
 
 pub use epoch::{read_epoch, write_epoch};
 pub use key::{PoolKey, epoch_key, read_key, record_key, state_key};
-pub use laws::{base_is_one, base_stands, epoch_is_one, key_is_one, keys_rise, state_is_one};
+pub use laws::{
+    base_is_one, base_stands, cache_is_one, cache_stands, epoch_is_one, key_is_one, keys_rise,
+    record_is_one, state_is_one,
+};
 pub use left::{
     commits_leave, done_leaves, live_has_one, now_is_since, readings_leave, reopenings_leave,
     tells_on,
