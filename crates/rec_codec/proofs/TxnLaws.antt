@@ -1,7 +1,7 @@
 -- Changes and transactions: what is taken is spelled so, and what is spelled so is taken.
-use Rattle.std.proofs.Common.{◌≡◌, ◌≢◌, ℕ, ◌^◌, ◌<◌, ◌≤◌, Bool, true, false, cond, not, ltb, leb, eqb, ◌&&◌, ◌||◌, List, [], ◌∷◌, ◌++◌, length, All, Option, Some, None, option_map, refl, sym, ap, subst, ◌∙◌, arith, inl, inr}
+use Rattle.std.proofs.Common.{◌≡◌, ◌≢◌, ℕ, ◌^◌, ◌<◌, Bool, true, false, cond, not, leb, eqb, ◌&&◌, ◌||◌, List, [], ◌∷◌, ◌++◌, length, Option, Some, None, option_map, refl, sym, ap, subst, ◌∙◌, arith, inl, inr}
 use Rattle.std.specs.Prelude.{IfSome, IfNone, bytes_eq, Decides}
-use Rattle.std.specs.List.{AllByRecursion, flat_map, list_any}
+use Rattle.std.specs.List.{AllByRecursion, flat_map}
 use Rattle.std.specs.Global.{Vec}
 use Rattle.std.proofs.lemmas.Bool.{both_ways, and_parts, and_from, leb-true, le-leb, eqb-true}
 use Rattle.std.proofs.lemmas.Slice.Eq.{bytes_eq-Decides}
@@ -12,7 +12,7 @@ use Rattle.obj_model.specs.declared.change.Change.TheVariants.{Put, Remove}
 use Rattle.obj_model.specs.Changes.{key_of, IsStoreKey, IsChange, AreApart, IsTxn}
 use Rattle.rec_codec.specs.Spelling.{string, store_key, change, txn_bytes, SpellsTxn}
 use Rattle.rec_codec.specs.Reading.{Reader, then_at, behind_at, if_at, as_at, number_at, taken_at, string_at, store_key_at, change_behind, change_at, changes_at, is_among, are_apart, txn_at, whole}
-use Rattle.rec_codec.proofs.Readers.{IsBytes, Took, IsReader, then_reads, behind_reads, if_reads, as_reads, also_reads, Each, each_reads}
+use Rattle.rec_codec.proofs.Readers.{IsBytes, IsReader, then_reads, behind_reads, if_reads, as_reads, also_reads, Each, each_reads}
 use Rattle.rec_codec.proofs.BlockLaws.{byte_reads, u16_reads, string_reads, taken_reads}
 use Rattle.rec_codec.proofs.ReplyLaws.{chosen, no_value}
 use Rattle.rec_codec.proofs.Whole.{whole_takes, whole_again, apart}

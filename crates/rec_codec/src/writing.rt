@@ -1,5 +1,5 @@
 //! States as they are written: the length first, and then one buffer that is filled.
-ghost use Rattle.std.specs.Prelude.{◌≡◌, ◌<◌, ◌^◌, ◌++◌, All, IfOk, OnOk, length, None};
+ghost use Rattle.std.specs.Prelude.{◌≡◌, ◌<◌, ◌≤◌, ◌^◌, ◌++◌, All, IfOk, OnOk, length, None};
 ghost use Rattle.byteorder.specs.Endian.{big_bytes};
 ghost use Rattle.obj_model.specs.Names.{name_fault};
 ghost use Rattle.obj_model.specs.States.{IsTable, IsObjOrNone, IsState};
@@ -25,7 +25,7 @@ fn put_u32(out: &mut Vec<u8>, number: u32) -> Result<(), AllocError>
     out.extend_from_slice(&bytes)
 }
 
-fn put_u64(out: &mut Vec<u8>, number: u64) -> Result<(), AllocError>
+pub(crate) fn put_u64(out: &mut Vec<u8>, number: u64) -> Result<(), AllocError>
     ensures { OnOk result (out.new.items ≡ out.old.items ++ big_bytes 8 number) }
 {
     let mut bytes = [0u8; 8];
@@ -144,8 +144,8 @@ fn put_object(out: &mut Vec<u8>, obj: &Option<Obj>) -> Result<(), AllocError>
     Ok(())
 }
 
-// The spelling, put behind what is there.
-fn put_state(out: &mut Vec<u8>, state: &NameState) -> Result<(), AllocError>
+/// The spelling, put behind what is there.
+pub(crate) fn put_state(out: &mut Vec<u8>, state: &NameState) -> Result<(), AllocError>
     requires { IsState state.now }
     ensures put { OnOk result (out.new.items ≡ out.old.items ++ state_bytes state.now) }
     ensures typed { OnOk result (IsTyped state.now) }
@@ -157,14 +157,24 @@ fn put_state(out: &mut Vec<u8>, state: &NameState) -> Result<(), AllocError>
     Ok(())
 }
 
-/// The one spelling of a state that is within its limits.
-pub fn write_state(alloc: Global, state: &NameState) -> Result<Vec<u8>, NoMemory>
+// The spelling alone.
+fn state_spelled(alloc: Global, state: &NameState) -> Result<Vec<u8>, NoMemory>
     requires { IsState state.now }
     ensures { IfOk result (λ bytes. SpellsState bytes.items state.now) }
 {
     let mut out = Vec::with_capacity(alloc, state_len(state))?;
     put_state(&mut out, state)?;
     Ok(out)
+}
+
+/// The one spelling of a state that is within its limits: at most 16,777,216 bytes, as a value of a
+/// store may have.
+pub fn write_state(alloc: Global, state: &NameState) -> Result<Vec<u8>, NoMemory>
+    requires { IsState state.now }
+    ensures spelled { IfOk result (λ bytes. SpellsState bytes.items state.now) }
+    ensures short { IfOk result (λ bytes. length bytes.items ≤ 16777216) }
+{
+    state_spelled(alloc, state)
 }
 
 // The bytes of a table in a spelling.
@@ -177,8 +187,8 @@ fn table_len(pairs: &PairMap) -> usize {
     total
 }
 
-// The bytes of a state's spelling, where no kept request was refused for its size.
-fn state_len(state: &NameState) -> usize {
+/// The bytes of a state's spelling, where no kept request was refused for its size.
+pub(crate) fn state_len(state: &NameState) -> usize {
     let mut total = 19usize.saturating_add(state.seen.as_slice().len().saturating_mul(28));
     if let Some(obj) = &state.obj {
         total = total.saturating_add(4);
