@@ -3,9 +3,10 @@
 //! A writer gives the spelling of its value, and a reader gives the value that the bytes, all of them, spell.
 #![tactic(auto)]
 
-mod blocks;
+pub mod blocks;
 mod fault;
 mod laws;
+pub mod put;
 mod reading;
 mod replies;
 #[cfg(test)]
@@ -14,6 +15,7 @@ mod tier;
 mod txn;
 mod writing;
 
+pub use fault::ReadError;
 pub use laws::{state_spellings, tier_spellings, txn_spellings};
 pub use reading::read_state;
 pub use tier::{read_tier, write_tier};

@@ -7,8 +7,9 @@ ghost use Rattle.rec_codec.specs.Reading.{Gives, mark_at, tier_at, whole};
 
 use crate::blocks::{u8_at, u64_at};
 use crate::fault::ReadError;
+use crate::put::put_u64;
 use crate::reading::state_at;
-use crate::writing::{put_state, put_u64, state_len};
+use crate::writing::{put_state, state_len};
 use obj_model::{NameState, NoMemory};
 use std::alloc::{AllocError, Global};
 

@@ -5,52 +5,9 @@ ghost use Rattle.obj_model.specs.Names.{name_fault};
 ghost use Rattle.obj_model.specs.States.{IsTable, IsObjOrNone, IsState};
 ghost use Rattle.rec_codec.specs.Spelling.{name, string, why, reply, kept, kept_list, table, object_or_none, state_bytes, IsFitWhy, IsFitReply, IsNamed, IsNamedObj, IsTyped, SpellsState};
 
-use byteorder::{BigEndian, ByteOrder};
-use obj_model::{Kept, Name, NameState, NoMemory, Obj, PairMap, Reply, Why};
+use crate::put::{put_name, put_string, put_u16, put_u64};
+use obj_model::{Kept, NameState, NoMemory, Obj, PairMap, Reply, Why};
 use std::alloc::{AllocError, Global};
-
-pub(crate) fn put_u16(out: &mut Vec<u8>, number: u16) -> Result<(), AllocError>
-    ensures { OnOk result (out.new.items ≡ out.old.items ++ big_bytes 2 number) }
-{
-    let mut bytes = [0u8; 2];
-    BigEndian::write_u16(&mut bytes, number);
-    out.extend_from_slice(&bytes)
-}
-
-fn put_u32(out: &mut Vec<u8>, number: u32) -> Result<(), AllocError>
-    ensures { OnOk result (out.new.items ≡ out.old.items ++ big_bytes 4 number) }
-{
-    let mut bytes = [0u8; 4];
-    BigEndian::write_u32(&mut bytes, number);
-    out.extend_from_slice(&bytes)
-}
-
-pub(crate) fn put_u64(out: &mut Vec<u8>, number: u64) -> Result<(), AllocError>
-    ensures { OnOk result (out.new.items ≡ out.old.items ++ big_bytes 8 number) }
-{
-    let mut bytes = [0u8; 8];
-    BigEndian::write_u64(&mut bytes, number);
-    out.extend_from_slice(&bytes)
-}
-
-// A name behind its length.
-fn put_name(out: &mut Vec<u8>, text: &Name) -> Result<(), AllocError>
-    ensures put { OnOk result (out.new.items ≡ out.old.items ++ name text.now) }
-    ensures lawful { name_fault text.now ≡ None }
-{
-    let bytes = text.bytes();
-    out.push(bytes.len() as u8)?;
-    out.extend_from_slice(bytes)
-}
-
-// Bytes behind their length.
-pub(crate) fn put_string(out: &mut Vec<u8>, bytes: &[u8]) -> Result<(), AllocError>
-    requires { length bytes.now < 2 ^ 32 }
-    ensures { OnOk result (out.new.items ≡ out.old.items ++ string bytes.now) }
-{
-    put_u32(out, bytes.len() as u32)?;
-    out.extend_from_slice(bytes)
-}
 
 fn put_why(out: &mut Vec<u8>, reason: Why) -> Result<(), AllocError>
     ensures put { OnOk result (out.new.items ≡ out.old.items ++ why reason) }
