@@ -1,21 +1,18 @@
 -- A base's map stands for one plain store.
-use Rattle.std.proofs.Common.{◌≡◌, ◌⊎◌, inl, inr, ℕ, T, Bool, true, false, cond, List, [], ◌∷◌, ◌++◌, Option, Some, None, unwrap_or, refl, sym, ap, subst, ◌∙◌, arith}
-use Rattle.std.proofs.lemmas.List.{append-nil}
+use Rattle.std.proofs.Common.{◌≡◌, ◌⊎◌, inl, inr, ℕ, Bool, true, false, cond, List, [], ◌∷◌, Option, Some, None, unwrap_or, refl, sym, subst, ◌∙◌, arith}
 use Rattle.std.specs.List.{AllByRecursion}
-use Rattle.std.specs.Cmp.{Equal-is, tied_itself}
 use Rattle.std.specs.Cmp.Lexicographic.{nat_list_cmp_total}
-use Rattle.std.specs.Ordering.{eq_by_cmp, is_eq}
+use Rattle.std.specs.Ordering.{eq_by_cmp}
 use Rattle.std.specs.FinMap as fin
-use Rattle.std.specs.FinMap.Entries.{below_all}
 use Rattle.obj_model.specs.Names.{name_cmp}
 use Rattle.obj_model.specs.States.{unknown}
 use Rattle.obj_model.specs.declared.state.NameState.{NameState}
-use Rattle.obj_ops.specs.Stores.{Store, state_of}
+use Rattle.obj_ops.specs.Stores.{state_of}
 use Rattle.rec_codec.proofs.Whole.{states_apart}
 use Rattle.store_face.specs.Tables.{Table}
-use Rattle.pool_keys.specs.Keys.{HasPoolKeys, IsPoolKey, epoch_key, state_key}
+use Rattle.pool_keys.specs.Keys.{IsPoolKey, epoch_key, state_key}
 use Rattle.pool_keys.specs.Laws.{BaseIsOne, BaseStands, StateIsOne}
-use Rattle.pool_keys.specs.Maps.{IsBaseMap, IsEpochEntry, IsStateEntry, SpellsBase}
+use Rattle.pool_keys.specs.Maps.{IsBaseMap, IsEpochEntry, IsStateEntry}
 use Rattle.pool_keys.specs.Values.{IsEpochOf, IsStateOf}
 use Rattle.pool_keys.proofs.Epochs.{epoch_one}
 use Rattle.pool_keys.proofs.Entries.{each_entry}

@@ -1,12 +1,11 @@
 -- A cache's map stands for one map of records.
-use Rattle.std.proofs.Common.{◌≡◌, ◌⊎◌, inl, inr, ℕ, ◌<◌, ◌^◌, Bool, true, false, cond, List, [], ◌∷◌, ◌++◌, Option, Some, None, refl, sym, ap, subst, ◌∙◌, arith}
+use Rattle.std.proofs.Common.{◌≡◌, ◌⊎◌, inl, inr, ℕ, ◌<◌, ◌^◌, Bool, true, false, cond, List, [], ◌∷◌, Option, Some, None, refl, sym, ap, subst, ◌∙◌, arith}
 use Rattle.std.specs.List.{AllByRecursion}
 use Rattle.std.specs.Cmp.Lexicographic.{nat_list_cmp_total}
 use Rattle.std.specs.Ordering.{eq_by_cmp}
 use Rattle.std.specs.FinMap as fin
 use Rattle.byteorder.specs.Endian.{big_bytes}
 use Rattle.obj_model.specs.Names.{name_cmp}
-use Rattle.obj_model.specs.declared.state.NameState.{NameState}
 use Rattle.rec_codec.specs.Reading.{number_at, whole}
 use Rattle.rec_codec.specs.Spelling.{SpellsState, SpellsTier, mark, state_bytes}
 use Rattle.rec_codec.proofs.BlockLaws.{u64_reads}
@@ -16,7 +15,7 @@ use Rattle.store_face.specs.Tables.{Table}
 use Rattle.tier_types.specs.declared.record.TierRec.{TierRec}
 use Rattle.pool_keys.specs.Keys.{IsPoolKey, epoch_key, record_key}
 use Rattle.pool_keys.specs.Laws.{CacheIsOne, CacheStands, RecordIsOne}
-use Rattle.pool_keys.specs.Maps.{IsCacheMap, IsEpochEntry, IsRecordEntry, Recs, SpellsCache}
+use Rattle.pool_keys.specs.Maps.{IsCacheMap, IsEpochEntry, IsRecordEntry, Recs}
 use Rattle.pool_keys.specs.Values.{IsEpochOf, IsRecOf}
 use Rattle.pool_keys.proofs.Entries.{each_entry}
 use Rattle.pool_keys.proofs.Epochs.{epoch_one}
@@ -52,7 +51,7 @@ spelled_one bytes r q h k =
     let front : SpellsState (state_bytes r.state) r.state = record { lawful = h.lawful; typed = h.typed; spelled = refl } in
     let other : SpellsState (state_bytes q.state) q.state = record { lawful = k.lawful; typed = k.typed; spelled = refl } in
     let both = states_apart r.state q.state (state_bytes r.state) (state_bytes q.state) (mark r.dirty ∷ big_bytes 8 r.mtime) (mark q.dirty ∷ big_bytes 8 q.mtime)
-        front other (sym h.spelled ∙ k.spelled) in
+    front other (sym h.spelled ∙ k.spelled) in
     let behind = tails r.dirty q.dirty r.mtime q.mtime both.1 in
     same_record r q both.0 (mark_one r.dirty q.dirty behind.0) (number_one r.mtime q.mtime h.timed k.timed behind.1)
 
@@ -135,14 +134,15 @@ pool_key key value (inr r) = inr (r.name, r.there)
 
 pub stands : CacheStands
 stands x h =
+    let made : List (List ℕ × TierRec) → Recs = λ recs. fin.from_entries recs in
     let each = each_entry (λ k v. IsEpochEntry k v ⊎ IsRecordEntry k v) x h in
     let recs = recs_in (fin.entries x) each in
     let epoch = epoch_of x h (fin.get x epoch_key) refl in
     record {
-      recs = fin.from_entries recs;
+      recs = made recs;
       epoch = epoch.number;
       spells = record {
-        each = λ name. subst (λ o. IsRecOf o (fin.get (fin.from_entries recs) name)) (sym (fin.get-entries x (record_key name)))
+        each = λ name. subst (λ o. IsRecOf o (fin.get (made recs) name)) (sym (fin.get-entries x (record_key name)))
             (subst (λ o. IsRecOf (fin.find name_cmp (record_key name) (fin.entries x)) o) (sym (fin.get-from_entries nat_list_cmp_total recs name))
             (agrees name (fin.entries x) each));
         is_epoch = epoch.is;

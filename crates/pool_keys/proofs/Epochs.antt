@@ -1,5 +1,5 @@
 -- One value spells one epoch, and is read so.
-use Rattle.std.proofs.Common.{◌≡◌, ◌≤◌, ◌<◌, ℕ, ◌^◌, List, Option, Some, None, sym, ap, subst, ◌∙◌, arith}
+use Rattle.std.proofs.Common.{◌≡◌, ◌≤◌, ◌<◌, ℕ, ◌^◌, List, Option, Some, None, sym, ap, ◌∙◌, arith}
 use Rattle.byteorder.specs.Endian.{big_bytes}
 use Rattle.rec_codec.specs.Reading.{number_at, whole}
 use Rattle.rec_codec.proofs.BlockLaws.{u64_reads}

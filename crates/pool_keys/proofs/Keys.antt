@@ -1,12 +1,10 @@
 -- Keys: one kind each, and their order.
-use Rattle.std.proofs.Common.{◌≡◌, ℕ, ◌<◌, List, [], ◌∷◌, length, None, refl, sym, ap, ◌∙◌, arith}
-use Rattle.std.specs.declared.cmp.Ordering.TheVariants.{Less}
+use Rattle.std.proofs.Common.{◌≡◌, ℕ, List, [], ◌∷◌, None, refl, sym, ap, ◌∙◌, arith}
 use Rattle.obj_model.specs.Changes.{IsStoreKey}
-use Rattle.obj_model.specs.Names.{name_cmp, name_fault}
+use Rattle.obj_model.specs.Names.{name_fault}
 use Rattle.rec_codec.proofs.BlockLaws.{name_short}
-use Rattle.pool_keys.specs.Keys.{IsOf, epoch_key, record_key, state_key}
+use Rattle.pool_keys.specs.Keys.{record_key, state_key}
 use Rattle.pool_keys.specs.Laws.{KeyIsOne, KeysRise}
-use Rattle.pool_keys.specs.declared.key.PoolKey.{PoolKey}
 use Rattle.pool_keys.specs.declared.key.PoolKey.TheVariants.{Epoch, Record, State}
 
 -- a letter and a name are the key of a store

@@ -1,17 +1,16 @@
 -- What the calls of a store say of the maps that a stop may leave.
-use Rattle.std.proofs.Common.{◌≡◌, ◌⊎◌, inl, inr, ℕ, true, List, [], ◌∷◌, ◌++◌, length, drop, Option, Some, None, Result, Ok, Err, refl, sym, ap, subst, ◌∙◌}
+use Rattle.std.proofs.Common.{◌≡◌, ◌⊎◌, inl, inr, ℕ, List, [], ◌∷◌, ◌++◌, length, drop, Option, Some, None, Ok, Err, refl, sym, ap, subst, ◌∙◌}
 use Rattle.std.proofs.lemmas.List.{append-nil}
 use Rattle.std.specs.FinMap as fin
 use Rattle.tier_outside.specs.Moments.{Each, Now as NowBy, grown, last}
 use Rattle.tier_outside.proofs.Moments.{grown_none, last_behind}
 use Rattle.obj_model.specs.declared.change.Change.{Change}
-use Rattle.store_face.specs.Calls.{Between, Both, Committed, Got, Made, Reopened}
+use Rattle.store_face.specs.Calls.{Between, Both}
 use Rattle.store_face.specs.Rooms.{Room}
 use Rattle.store_face.specs.Tables.{Table, changed_by}
-use Rattle.store_face.specs.Views.{CrashMaps, Durable, IsBehind, IsOne, Sound, StoreView, no_map}
-use Rattle.store_face.specs.declared.fault.StoreFault.{StoreFault}
+use Rattle.store_face.specs.Views.{CrashMaps, Durable, IsBehind, IsOne, StoreView, no_map}
 use Rattle.store_face.specs.declared.fault.StoreFault.TheVariants.{Disk, BadImage, NoSpace, Worn, NoMemory}
-use Rattle.pool_keys.specs.Laws.{CommitsLeave, DoneLeaves, GaveOf, IsChanged, IsLeftOrChanged, LiveHasOne, NowIsSince, ReadingsLeave, ReopeningsLeave, TellsOn}
+use Rattle.pool_keys.specs.Laws.{CommitsLeave, DoneLeaves, IsChanged, IsLeftOrChanged, LiveHasOne, NowIsSince, ReadingsLeave, ReopeningsLeave, TellsOn}
 use Rattle.pool_keys.specs.Left.{AreTold, HaveSide, IsBeforeBy, IsLeftBy, IsLeftSinceBy, IsSide}
 
 abbrev Moments : Type 0

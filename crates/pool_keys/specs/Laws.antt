@@ -1,5 +1,5 @@
 -- What follows from the definitions, in plain words.
-use Rattle.std.specs.Prelude.{◌≡◌, ◌↔◌, ◌⊎◌, ℕ, true, List, Option, Some, Result, Ok, Err}
+use Rattle.std.specs.Prelude.{◌≡◌, ◌↔◌, ◌⊎◌, ℕ, true, List, Option, Result, Ok, Err}
 use Rattle.std.specs.FinMap as fin
 use Rattle.std.specs.declared.cmp.Ordering.TheVariants.{Less}
 use Rattle.tier_outside.specs.Moments.{grown}

@@ -1,5 +1,5 @@
 //! The keys of a pool's map.
-ghost use Rattle.std.specs.Prelude.{◌≡◌, IfOk, IfNone, IfSome, None};
+ghost use Rattle.std.specs.Prelude.{◌≡◌, ◌∷◌, IfOk, IfNone, IfSome, None};
 ghost use Rattle.obj_model.specs.Changes.{IsStoreKey};
 ghost use Rattle.obj_model.specs.Names.{name_fault};
 ghost use Rattle.pool_keys.specs.Keys.{IsOf, epoch_key, record_key, state_key};

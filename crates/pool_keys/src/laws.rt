@@ -27,31 +27,26 @@ pub fn state_is_one()
 {}
 
 /// A base's map whose keys and values are all spelled stands for a plain store at an epoch.
-#[tactic(auto, using(crate::proofs::Bases::stands))]
 pub fn base_stands()
     ensures { BaseStands }
 {}
 
 /// It stands for one only: two stores that it stands for have the same state of each name.
-#[tactic(auto, using(crate::proofs::Bases::one))]
 pub fn base_is_one()
     ensures { BaseIsOne }
 {}
 
 /// The cache has one record of a name, or none.
-#[tactic(auto, using(crate::proofs::Caches::record_one))]
 pub fn record_is_one()
     ensures { RecordIsOne }
 {}
 
 /// A cache's map whose keys and values are all spelled stands for records at an epoch.
-#[tactic(auto, using(crate::proofs::Caches::stands))]
 pub fn cache_stands()
     ensures { CacheStands }
 {}
 
 /// It stands for one map of records only.
-#[tactic(auto, using(crate::proofs::Caches::one))]
 pub fn cache_is_one()
     ensures { CacheIsOne }
 {}
