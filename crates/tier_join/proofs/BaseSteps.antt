@@ -25,12 +25,15 @@ use Rattle.tier_protocol.proofs.Delivers.{acts_on_plain, delivering, filling, in
 use Rattle.tier_protocol.proofs.Requests.{replay_more}
 use Rattle.tier_protocol.proofs.Worlds.{doubt_keeps}
 use Rattle.tier_join.specs.Group.{Doubt, Memory, TwoMaps, View, ActIsNext, AreLeft, EpochIsNext, HasStateAt, IsSoundMemory, ShowsIn, Spells, SpellsDoubt, changed_in, tier_of, with_act, with_epoch}
-use Rattle.tier_join.specs.Maps.{SpellsBase, SpellsEpoch, epoch_key, state_key}
+use Rattle.pool_keys.proofs.Bases.{state_one}
+use Rattle.pool_keys.specs.Keys.{epoch_key, state_key}
+use Rattle.pool_keys.specs.Maps.{SpellsBase}
+use Rattle.pool_keys.specs.Values.{SpellsEpoch}
 use Rattle.tier_join.specs.Promises.{as_it_is}
 use Rattle.tier_join.specs.Laws.{AnsweringPromises, FencingPromises, PuttingPromises}
 use Rattle.tier_join.specs.Steps.{HasState, HasStateFor, IsOver, Outcome, Owes, OwesMemory, act_of, after, doubt_of, no_space, sets}
 use Rattle.tier_join.proofs.Commits.{commit_promises}
-use Rattle.tier_join.proofs.Keys.{base_at, base_with, same_state, set_is}
+use Rattle.tier_join.proofs.Keys.{base_at, base_with, set_is}
 use Rattle.tier_join.proofs.MemoryMoves.{no_space_memory, served_memory}
 use Rattle.tier_join.proofs.Rests.{memory_promises}
 
@@ -38,7 +41,7 @@ use Rattle.tier_join.proofs.Rests.{memory_promises}
 
 pub state_is : (start : Store) (v : View) (z : TwoMaps) (name : Option Name) (s : NameState) → HasStateFor v name s → AreLeft v z → (h : Spells start v.memory z) → state_for name h.base ≡ s
 state_is start v z None s has i h = sym has
-state_is start v z (Some k) s has i h = same_state (fin.get z.base (state_key k)) (state_of h.base k) s (h.based.each k) (has z.base i.1)
+state_is start v z (Some k) s has i h = state_one (fin.get z.base (state_key k)) (state_of h.base k) s (h.based.each k) (has z.base i.1)
 
 -- a message is served by what was read
 module _ (start : Store) (v : View) (z : TwoMaps) (msg : BaseMsg) (s : NameState) (out : Served)

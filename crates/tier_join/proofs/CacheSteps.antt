@@ -23,19 +23,22 @@ use Rattle.tier_protocol.proofs.Requests.{replay_more}
 use Rattle.tier_protocol.proofs.Steps.{acting, cleaning, evicting, finding, leaving, promoting, raising, shown}
 use Rattle.tier_protocol.proofs.Worlds.{cache_doubt_keeps}
 use Rattle.tier_join.specs.Group.{Doubt, Memory, TwoMaps, View, AreLeft, HasRecordAt, IsSoundMemory, ShowsIn, Spells, changed_in, tier_of, with_act, with_epoch}
-use Rattle.tier_join.specs.Maps.{IsRecOf, SpellsBase, SpellsCache, SpellsEpoch, epoch_key, record_key}
+use Rattle.pool_keys.proofs.Caches.{record_one}
+use Rattle.pool_keys.specs.Keys.{epoch_key, record_key}
+use Rattle.pool_keys.specs.Maps.{SpellsBase, SpellsCache}
+use Rattle.pool_keys.specs.Values.{IsRecOf, SpellsEpoch}
 use Rattle.tier_join.specs.Promises.{as_it_is, with_req}
 use Rattle.tier_join.specs.Laws.{ActingPromises, CleaningPromises, DrainingPromises, EvictingPromises, PromotingActsPromises, PromotingPromises, RaisingPromises}
 use Rattle.tier_join.specs.Steps.{HasRec, Outcome, Owes, after, seen, sets, unless_disk}
 use Rattle.tier_join.proofs.Commits.{commit_promises}
-use Rattle.tier_join.proofs.Keys.{IsWith, cache_at, cache_with, same_rec, set_is}
+use Rattle.tier_join.proofs.Keys.{IsWith, cache_at, cache_with, set_is}
 use Rattle.tier_join.proofs.MemoryMoves.{free_memory, unless_sound}
 
 -- ---- what was read
 
 -- a record that was read is the pair's
 pub rec_is : (start : Store) (v : View) (z : TwoMaps) (k : Name) (rec : Option TierRec) → HasRec v k rec → AreLeft v z → (h : Spells start v.memory z) → fin.get h.recs k ≡ rec
-rec_is start v z k rec has i h = same_rec (fin.get z.cache (record_key k)) (fin.get h.recs k) rec (h.cached.each k) (has z.cache i.0)
+rec_is start v z k rec has i h = record_one (fin.get z.cache (record_key k)) (fin.get h.recs k) rec (h.cached.each k) (has z.cache i.0)
 
 -- and it is the one that the step sees
 pub rec_seen : (start : Store) (v : View) (z : TwoMaps) (k : Name) (rec : Option TierRec) → HasRec v k rec → AreLeft v z → (h : Spells start v.memory z) → fin.get h.recs k ≡ fin.get (set_at {X = TierRec} fin.empty k rec) k

@@ -5,17 +5,17 @@ use Rattle.obj_model.specs.declared.change.Change.{Change}
 use Rattle.obj_model.specs.declared.change.Pool.{Pool}
 use Rattle.obj_model.specs.declared.change.Pool.TheVariants.{Cache, Base}
 use Rattle.obj_ops.specs.Stores.{Store, replay}
-use Rattle.store_face.specs.Calls.{Between, Committed, Made, MayBeMade}
+use Rattle.store_face.specs.Calls.{Committed, Made, MayBeMade}
 use Rattle.store_face.specs.Tables.{Table}
 use Rattle.store_face.specs.Views.{StoreView}
 use Rattle.store_face.specs.declared.fault.StoreFault.{StoreFault}
 use Rattle.store_face.specs.declared.fault.StoreFault.TheVariants.{Disk, BadImage, NoSpace, Worn, NoMemory}
 use Rattle.tier_protocol.proofs.Steps.{sound_stands}
 use Rattle.tier_join.specs.Group.{Doubt, Memory, TwoMaps, View, AreLeft, BeganAt, BothTell, IsRemembered, Spells, SpellsAny, SpellsDoubt, changed_in, store_in, store_now, tier_of, with_store}
-use Rattle.tier_join.specs.Maps.{AreTold, IsLeft, IsLeftSince}
+use Rattle.pool_keys.specs.Left.{AreTold, IsLeft, IsLeftSince}
 use Rattle.tier_join.specs.Promises.{AreLeftSince, Promises, StandsFor}
 use Rattle.tier_join.specs.Steps.{Commits, Outcome, Owes, behind, doubt_after, memory_after}
-use Rattle.tier_join.proofs.Left.{FromLeft, commit_since, made_left, now_since, rests_left, rests_now, rests_since, some_left, tells_on}
+use Rattle.tier_join.proofs.Left.{FromLeft, made_left, made_since, now_since, rests_left, rests_now, rests_since, some_left, tells_on, torn_since}
 
 -- ---- two stores, of which one changes
 
@@ -23,16 +23,18 @@ use Rattle.tier_join.proofs.Left.{FromLeft, commit_since, made_left, now_since, 
 abbrev ComesFrom : Pool → List Change → View → TwoMaps → Type 0
 ComesFrom pool cs v z = (y : TwoMaps) × AreLeft v y × (z ≡ changed_in pool cs y)
 
-since_in : (pool : Pool) (cs : List Change) (v : View) (s : StoreView) → Between cs (store_in pool v) s → (z : TwoMaps) → AreLeftSince v (with_store pool s v) z → AreLeft v z ⊎ ComesFrom pool cs v z
-since_in Cache cs v s between z i =
+-- since a commit in one pool began, by what a stop leaves of that pool
+since_in : (pool : Pool) (cs : List Change) (v : View) (s : StoreView) → ((t : Table) → IsLeftSince (store_in pool v) s t → IsLeft (store_in pool v) t ⊎ FromLeft cs (store_in pool v) t)
+    → (z : TwoMaps) → AreLeftSince v (with_store pool s v) z → AreLeft v z ⊎ ComesFrom pool cs v z
+since_in Cache cs v s leaves z i =
     let other = rests_since v.base v.base refl z.base i.1 in
-    elim (commit_since cs v.cache s between z.cache i.0) [
+    elim (leaves z.cache i.0) [
       | inl was ↦ inl (was, other)
       | inr from ↦ inr (record z { cache = from.0 }, (from.1, other), ap {A = Table} {B = TwoMaps} (λ t. record z { cache = t }) from.2)
     ]
-since_in Base cs v s between z i =
+since_in Base cs v s leaves z i =
     let other = rests_since v.cache v.cache refl z.cache i.0 in
-    elim (commit_since cs v.base s between z.base i.1) [
+    elim (leaves z.base i.1) [
       | inl was ↦ inl (other, was)
       | inr from ↦ inr (record z { base = from.0 }, (other, from.1), ap {A = Table} {B = TwoMaps} (λ t. record z { base = t }) from.2)
     ]
@@ -142,7 +144,7 @@ module _ (pool : Pool) (cs : List Change) (done : Memory) (left : StoreFault →
   began (inr (inl h)) start told b =
       let some = some_maps v told in
       subst (BeganAt start) (sym (is_torn h.0)) (record {
-        holds = λ z i. elim (since_in pool cs v S h.1.between z (left_since_in pool v S (now_since (store_in pool v) S _ h.1.between) z i)) [
+        holds = λ z i. elim (since_in pool cs v S (torn_since cs (store_in pool v) S h.1) z (left_since_in pool v S (now_since (store_in pool v) S _ h.1.between) z i)) [
           | inl was ↦ inl (owes.stays start z Disk h.0 was (surely start v owes.settled b z was))
           | inr from ↦ subst (λ x. Spells start (left Disk) x ⊎ SpellsDoubt start (left Disk) d x) (sym from.2)
               (owes.torn start from.0 from.1 (surely start v owes.settled b from.0 from.1))
@@ -165,8 +167,8 @@ module _ (pool : Pool) (cs : List Change) (done : Memory) (left : StoreFault →
   ]
     where
       lies : Came cs d (store_in pool v) S result → AreLeft v z ⊎ ComesFrom pool cs v z
-      lies (inl h) = since_in pool cs v S h.1.between z i
-      lies (inr (inl h)) = since_in pool cs v S h.1.between z i
+      lies (inl h) = since_in pool cs v S (made_since cs (store_in pool v) S h.1) z i
+      lies (inr (inl h)) = since_in pool cs v S (torn_since cs (store_in pool v) S h.1) z i
       lies (inr (inr h)) = inl (same_since_in pool v S h.3 z i)
 
   tells : Came cs d (store_in pool v) S result → (AreTold (store_in pool v).moments → AreTold S.moments) × (AreTold S.moments → AreTold (store_in pool v).moments)

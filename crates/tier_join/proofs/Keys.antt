@@ -1,60 +1,19 @@
 -- What one change of one key does to what a map spells.
 use Rattle.std.proofs.Common.{◌≡◌, ◌≢◌, inl, inr, ℕ, ◌<◌, ◌≤◌, ◌^◌, Bool, true, false, List, [], ◌∷◌, ◌++◌, Option, Some, None, unwrap_or, refl, sym, ap, subst, ◌∙◌, arith}
 use Rattle.std.specs.FinMap as fin
-use Rattle.byteorder.specs.Endian.{big_bytes, big_number}
-use Rattle.byteorder.specs.Numbers.{big_number-reads_back}
 use Rattle.obj_model.specs.Names.{name_fault}
 use Rattle.obj_model.specs.States.{unknown}
 use Rattle.obj_model.specs.declared.state.NameState.{NameState}
 use Rattle.obj_ops.specs.Stores.{Store, state_of}
 use Rattle.rec_codec.specs.Spelling.{SpellsState}
-use Rattle.rec_codec.proofs.Whole.{states_apart}
 use Rattle.store_face.specs.Tables.{Table, changed_by}
 use Rattle.tier_protocol.specs.Tiers.{Name, TierRec, Recs}
 use Rattle.tier_protocol.specs.Moves.{set_at}
 use Rattle.tier_protocol.proofs.Cells.{get_here, get_there, names_by, same_or_not}
-use Rattle.tier_join.specs.Maps.{HasPoolKeys, IsEpochOf, IsPoolKey, IsRecOf, IsStateOf, SpellsBase, SpellsCache, SpellsEpoch, SpellsTier, epoch_key, flag, record_key, state_key}
+use Rattle.pool_keys.specs.Keys.{HasPoolKeys, IsPoolKey, epoch_key, record_key, state_key}
+use Rattle.pool_keys.specs.Maps.{SpellsBase, SpellsCache}
+use Rattle.pool_keys.specs.Values.{IsEpochOf, IsRecOf, IsStateOf, SpellsEpoch}
 use Rattle.tier_join.specs.Steps.{sets}
-
--- ---- a value spells one thing
-
-one_flag : (a b : Bool) (more others : List ℕ) → flag a ∷ more ≡ flag b ∷ others → (a ≡ b) × (more ≡ others)
-one_flag true true more others e = (refl, cc)
-one_flag true false more others e = let f : ◌≡◌ {A = ℕ} 1 0 = cc in absurd (omega (arith, f))
-one_flag false true more others e = let f : ◌≡◌ {A = ℕ} 0 1 = cc in absurd (omega (arith, f))
-one_flag false false more others e = (refl, cc)
-
-one_number : (a b : ℕ) → a < 256 ^ 8 → b < 256 ^ 8 → big_bytes 8 a ≡ big_bytes 8 b → a ≡ b
-one_number a b low less e = sym (big_number-reads_back 8 a [] low) ∙ ap (λ l. big_number 8 (l ++ [])) e ∙ big_number-reads_back 8 b [] less
-
-one_record : (bytes : List ℕ) (r q : TierRec) → SpellsTier bytes r → SpellsTier bytes q → r ≡ q
-one_record bytes r q h k =
-    let first = states_apart r.state q.state h.state k.state (flag r.dirty ∷ big_bytes 8 r.mtime) (flag q.dirty ∷ big_bytes 8 q.mtime) h.is_state k.is_state (sym h.spelled ∙ k.spelled) in
-    let second = one_flag r.dirty q.dirty (big_bytes 8 r.mtime) (big_bytes 8 q.mtime) first.1 in
-    let third = one_number r.mtime q.mtime h.moment k.moment second.1 in
-    let a = first.0 in let b = second.0 in
-    subst (λ s. r ≡ record { state = s; dirty = q.dirty; mtime = q.mtime }) a
-    (subst (λ d. r ≡ record { state = r.state; dirty = d; mtime = q.mtime }) b
-    (subst (λ n. r ≡ record { state = r.state; dirty = r.dirty; mtime = n }) third refl))
-
-pub same_rec : (o : Option (List ℕ)) (a b : Option TierRec) → IsRecOf o a → IsRecOf o b → a ≡ b
-same_rec None None None h k = refl
-same_rec None None (Some r) h k = absurd k
-same_rec None (Some r) b h k = absurd h
-same_rec (Some bytes) None b h k = absurd h
-same_rec (Some bytes) (Some r) None h k = absurd k
-same_rec (Some bytes) (Some r) (Some q) h k = ap Some (one_record bytes r q h k)
-
-pub one_state : (bytes : List ℕ) (s t : NameState) → SpellsState bytes s → SpellsState bytes t → s ≡ t
-one_state bytes s t h k = (states_apart s t bytes bytes [] [] h k refl).0
-
-pub same_state : (o : Option (List ℕ)) (s t : NameState) → IsStateOf o s → IsStateOf o t → s ≡ t
-same_state None s t h k = h ∙ sym k
-same_state (Some bytes) s t h k = one_state bytes s t h k
-
-pub same_epoch : (o : Option (List ℕ)) (a b : ℕ) → IsEpochOf o a → IsEpochOf o b → a ≡ b
-same_epoch None a b h k = h ∙ sym k
-same_epoch (Some bytes) a b h k = one_number a b (omega (arith, h.most)) (omega (arith, k.most)) (sym h.spelled ∙ k.spelled)
 
 -- ---- keys are apart
 

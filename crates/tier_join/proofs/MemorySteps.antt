@@ -13,7 +13,7 @@ use Rattle.tier_protocol.proofs.Cells.{get_here, get_there, same_or_not}
 use Rattle.tier_protocol.proofs.Memory.{flight_gathered, memory_at, memory_left, memory_stopped, memory_unfenced, memory_up}
 use Rattle.tier_protocol.proofs.Steps.{beginning, gathering, going_up, landing, losing, sending, stopping}
 use Rattle.tier_join.specs.Group.{Memory, TwoMaps, View, AreLeft, IsSoundMemory, Spells, tier_of}
-use Rattle.tier_join.specs.Maps.{SpellsBase, SpellsCache}
+use Rattle.pool_keys.specs.Maps.{SpellsBase, SpellsCache}
 use Rattle.tier_join.specs.Promises.{Promises, as_it_is}
 use Rattle.tier_join.specs.Laws.{BeginningPromises, GatheringPromises, GoingUpPromises, LandingPromises, LosingPromises, SendingPromises, StoppingPromises}
 use Rattle.tier_join.specs.Steps.{HasRec, HasRecFor, OwesMemory, OwesWorlds, Rests, after, left_with, seen, subject, with_doubt}

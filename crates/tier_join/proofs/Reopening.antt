@@ -20,12 +20,16 @@ use Rattle.tier_protocol.proofs.Memory.{memory_fenced, memory_raised}
 use Rattle.tier_protocol.proofs.Requests.{fresh_seq}
 use Rattle.tier_protocol.proofs.Steps.{counting}
 use Rattle.tier_join.specs.Group.{Doubt, Memory, TwoMaps, View, ActIsNext, AreLeft, BeganAt, BothTell, EpochIsNext, HasRecordAt, HasStateAt, IsRemembered, IsSoundMemory, ShowsIn, Spells, SpellsAny, Within, map_in, store_in, store_now, tier_of, with_act, with_epoch, with_store}
-use Rattle.tier_join.specs.Maps.{AreTold, IsLeftSinceBy, IsRecOf, IsStateOf, epoch_key, record_key, state_key}
+use Rattle.pool_keys.specs.Keys.{epoch_key, record_key, state_key}
+use Rattle.pool_keys.specs.Left.{AreTold, IsLeftSinceBy}
+use Rattle.pool_keys.specs.Values.{IsRecOf, IsStateOf}
 use Rattle.tier_join.specs.Promises.{AreLeftSince, Promises}
 use Rattle.tier_join.specs.Laws.{OpeningPromises, ReopeningsAreAmong}
 use Rattle.tier_join.specs.Steps.{Has, IsAtEpoch, Opens, Settles, after, pool_of, settled, with_doubt}
 use Rattle.tier_join.proofs.Commits.{told_in}
-use Rattle.tier_join.proofs.Keys.{one_state, same_epoch, same_rec}
+use Rattle.pool_keys.proofs.Bases.{state_one}
+use Rattle.pool_keys.proofs.Caches.{record_one}
+use Rattle.pool_keys.proofs.Epochs.{epoch_one}
 use Rattle.tier_join.proofs.Left.{among_since, now_since, rests_left, rests_since, tells_on}
 use Rattle.tier_join.proofs.Rests.{within_stands}
 
@@ -52,13 +56,13 @@ record_behind : (o : Option (List ℕ)) (rec : Option TierRec) (seq : ℕ) (plai
 record_behind None rec seq plain has is shows = absurd has
 record_behind (Some bytes) None seq plain has is shows = absurd is
 record_behind (Some bytes) (Some r) seq plain has is shows =
-    let same : Some has.0 ≡ Some r = same_rec (Some bytes) (Some has.0) (Some r) has.1 is in
+    let same : Some has.0 ≡ Some r = record_one (Some bytes) (Some has.0) (Some r) has.1 is in
     let one : has.0 ≡ r = cc in
     sym has.2 ∙ ap (λ x. x.state.seq) one ∙ ap (λ s. s.seq) shows
 
 state_behind : (o : Option (List ℕ)) (seq : ℕ) (base : NameState) → HasStateAt seq o → IsStateOf o base → seq ≡ base.seq
 state_behind None seq base has is = absurd has
-state_behind (Some bytes) seq base has is = sym has.2 ∙ ap (λ s. s.seq) (one_state bytes has.0 base has.1 is)
+state_behind (Some bytes) seq base has is = sym has.2 ∙ ap (λ s. s.seq) (state_one (Some bytes) has.0 base has.1 is)
 
 not_without : (pool : Pool) (start : Store) (m : Memory) (z : TwoMaps) (name : Name) (seq : ℕ) → ShowsIn pool name seq (map_in pool z) → seq ≡ (state_of (replay start m.acts) name).seq + 1 → Spells start m z → ⊥
 not_without Cache start m z name seq shows next h =
@@ -106,7 +110,7 @@ module _ (v : View) (s : StoreView) where
     cache_found : (e : ℕ) → Among v.cache s → v.doubt ≡ Some (Doubt.Epoch Cache e) → Has s (IsAtEpoch e)
         → BeganAt start (record v { cache = s; doubt = None; memory = after (λ t. counted_raised (epoch_found e t)) v.memory })
     cache_found e among is has = surely_so Cache among start b (Doubt.Epoch Cache e) is (after (λ t. counted_raised (epoch_found e t)) v.memory) (λ z i h. elim h [
-      | inl g ↦ absurd (omega (arith, next.0, same_epoch (fin.get z.cache epoch_key) v.memory.net.cache_epoch e g.cached.is_epoch (has z.cache i.0)))
+      | inl g ↦ absurd (omega (arith, next.0, epoch_one (fin.get z.cache epoch_key) v.memory.net.cache_epoch e g.cached.is_epoch (has z.cache i.0)))
       | inr g ↦ record {
         recs = g.recs;
         base = g.base;
@@ -122,7 +126,7 @@ module _ (v : View) (s : StoreView) where
     base_found : (e : ℕ) → Among v.base s → v.doubt ≡ Some (Doubt.Epoch Base e) → Has s (IsAtEpoch e)
         → BeganAt start (record v { base = s; doubt = None; memory = with_epoch Base e v.memory })
     base_found e among is has = surely_so Base among start b (Doubt.Epoch Base e) is (with_epoch Base e v.memory) (λ z i h. elim h [
-      | inl g ↦ absurd (omega (arith, next, same_epoch (fin.get z.base epoch_key) v.memory.net.base_epoch e g.based.is_epoch (has z.base i.1)))
+      | inl g ↦ absurd (omega (arith, next, epoch_one (fin.get z.base epoch_key) v.memory.net.base_epoch e g.based.is_epoch (has z.base i.1)))
       | inr g ↦ g
     ])
       where

@@ -6,7 +6,7 @@ use Rattle.obj_ops.specs.Stores.{Store, replay}
 use Rattle.tier_protocol.specs.Tiers.{Net, Phase}
 use Rattle.tier_protocol.proofs.Requests.{replay_more}
 use Rattle.tier_join.specs.Group.{Doubt, Memory, TwoMaps, View, ActIsNext, AreLeft, BeganAt, BothTell, EpochIsNext, IsRemembered, Spells, SpellsAny, Within, store_now, with_act, with_epoch}
-use Rattle.tier_join.specs.Maps.{AreTold, IsLeftSinceBy}
+use Rattle.pool_keys.specs.Left.{AreTold, IsLeftSinceBy}
 use Rattle.tier_join.specs.Promises.{AreLeftSince, Promises, StandsFor, as_it_is, with_req}
 use Rattle.tier_join.specs.Steps.{OwesMemory, OwesWorlds, Rests, elsewhere, with_doubt}
 use Rattle.tier_join.proofs.Commits.{stands, surely}

@@ -19,7 +19,7 @@ use Rattle.tier_protocol.proofs.Steps.{found_sound, promoting, shown}
 use Rattle.tier_protocol.proofs.Truth.{reads_true, writes_true}
 use Rattle.tier_join.specs.Ends.{ActsArePlain, BaresArePlain, EpochsAreLevel, GroupsBegin, GroupsBeginAnew, HistoriesAreLegal, IsSettled, LeftStands, PromotionsArePlain, ReadsArePlain, RecordsArePlain, WritesArePlain, found_view}
 use Rattle.tier_join.specs.Group.{Doubt, Memory, TwoMaps, View, AreLeft, BeganAt, IsGroup, IsSoundMemory, Spells, SpellsAny, store_now, tier_of, with_act}
-use Rattle.tier_join.specs.Maps.{IsLeft}
+use Rattle.pool_keys.specs.Left.{IsLeft}
 use Rattle.tier_join.specs.Promises.{StandsAt, StandsFor}
 use Rattle.tier_join.proofs.BaseSteps.{state_is}
 use Rattle.tier_join.proofs.CacheSteps.{rec_is}

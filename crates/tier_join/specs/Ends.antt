@@ -16,7 +16,7 @@ use Rattle.tier_protocol.specs.Moves.{MayLand, MayPromote}
 use Rattle.tier_protocol.specs.Sound.{AreFresh}
 use Rattle.tier_protocol.specs.Tiers.{Name, Ask, BaseActed, BaseMsg, BaseReply, Flight, IsIn, Phase, ReadFlight, Tier, TierRec}
 use Rattle.tier_join.specs.Group.{TwoMaps, View, AreLeft, BeganAt, BothTell, IsGroup, store_now}
-use Rattle.tier_join.specs.Maps.{IsLeft}
+use Rattle.pool_keys.specs.Left.{IsLeft}
 use Rattle.tier_join.specs.Promises.{StandsAt, StandsFor}
 use Rattle.tier_join.specs.Steps.{Has, HasRec, HasState, seen, with_doubt}
 

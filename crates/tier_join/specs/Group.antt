@@ -11,13 +11,15 @@ use Rattle.obj_model.specs.declared.state.NameState.{NameState}
 use Rattle.obj_ops.specs.declared.request.Acted.TheVariants.{Fresh}
 use Rattle.obj_ops.specs.Acts.{act}
 use Rattle.obj_ops.specs.Stores.{Store, replay, state_of}
-use Rattle.rec_codec.specs.Spelling.{SpellsState}
+use Rattle.rec_codec.specs.Spelling.{SpellsState, SpellsTier}
 use Rattle.store_face.specs.Tables.{Table, changed_by}
 use Rattle.store_face.specs.Views.{StoreView}
 use Rattle.tier_protocol.specs.Memory.{SoundMemory}
 use Rattle.tier_protocol.specs.Sound.{IsSound}
 use Rattle.tier_protocol.specs.Tiers.{Name, TierRec, Recs, Flights, Net, Phase, Tier}
-use Rattle.tier_join.specs.Maps.{SpellsBase, SpellsCache, SpellsTier, IsLeft, Tells, record_key, state_key}
+use Rattle.pool_keys.specs.Keys.{record_key, state_key}
+use Rattle.pool_keys.specs.Left.{IsLeft, Tells}
+use Rattle.pool_keys.specs.Maps.{SpellsBase, SpellsCache}
 pub use Rattle.tier_join.specs.declared.doubt.Doubt.{Doubt}
 
 -- What is in memory: the requests that acted, the work under way, and the wire. What is kept of calls,
@@ -105,7 +107,7 @@ pub record Spells (start : Store) (m : Memory) (z : TwoMaps) : Type 0 where
 -- a value spells a record of this `seq`
 abbrev pub HasRecordAt : ℕ → Option (List ℕ) → Type 0
 HasRecordAt seq None = ⊥
-HasRecordAt seq (Some bytes) = (r : TierRec) × SpellsTier bytes r × (r.state.seq ≡ seq)
+HasRecordAt seq (Some bytes) = (r : TierRec) × SpellsTier bytes r.state r.dirty r.mtime × (r.state.seq ≡ seq)
 
 -- a value spells a state of this `seq`
 abbrev pub HasStateAt : ℕ → Option (List ℕ) → Type 0

@@ -21,7 +21,8 @@ use Rattle.tier_types.specs.Serving.{Served, name_in, replies, served}
 use Rattle.tier_protocol.specs.Moves.{acted_here, begun, cleaned, drained, evicted, gathered, landed, promoted, raised_to, sent, stopped_base, stopped_cache, went_up, with_flight, with_served, MayActHere, MayBegin, MayClean, MayEvict, MayGather, MayGoUp, MayLand, MayPromote, MaySend}
 use Rattle.tier_protocol.specs.Tiers.{Name, Ask, AreIn, BaseActed, BaseMsg, BaseReply, Flight, Flights, IsIn, Phase, TierRec}
 use Rattle.tier_join.specs.Group.{Doubt, Memory, View, IsGroup, store_now}
-use Rattle.tier_join.specs.Maps.{IsRecOf, IsStateOf, SpellsEpoch, epoch_key, record_key, state_key}
+use Rattle.pool_keys.specs.Keys.{epoch_key, record_key, state_key}
+use Rattle.pool_keys.specs.Values.{IsRecOf, IsStateOf, SpellsEpoch}
 use Rattle.tier_join.specs.Promises.{Promises, as_it_is, with_req}
 use Rattle.tier_join.specs.Steps.{Commits, HasRec, HasRecFor, HasState, HasStateFor, IsOver, Opens, Outcome, Owes, OwesMemory, OwesWorlds, Rests, act_of, after, doubt_of, left_with, no_space, seen, sets, subject, unless_disk, with_doubt}
 

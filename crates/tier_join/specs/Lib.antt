@@ -1,4 +1,3 @@
-pub mod Maps
 pub mod Group
 pub mod Promises
 pub mod Steps

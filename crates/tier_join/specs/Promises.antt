@@ -7,7 +7,8 @@ use Rattle.obj_ops.specs.Stores.{Store, state_of, store_after}
 use Rattle.tier_protocol.specs.Laws as protocol
 use Rattle.tier_protocol.specs.Tiers.{Recs}
 use Rattle.tier_join.specs.Group.{TwoMaps, View, BeganAt, BothTell, IsRemembered, store_now}
-use Rattle.tier_join.specs.Maps.{SpellsBase, SpellsCache, IsLeftSince}
+use Rattle.pool_keys.specs.Left.{IsLeftSince}
+use Rattle.pool_keys.specs.Maps.{SpellsBase, SpellsCache}
 
 -- two maps spell, at these epochs, records and states that stand for a plain store
 pub record StandsAt (cache_epoch base_epoch : ℕ) (z : TwoMaps) (plain : Store) : Type 0 where

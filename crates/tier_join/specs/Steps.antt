@@ -18,7 +18,9 @@ use Rattle.tier_protocol.specs.Moves.{counted_raised, epoch_found, filled, set_a
 use Rattle.tier_protocol.specs.Sound.{IsSound}
 use Rattle.tier_protocol.specs.Tiers.{Name, BaseMsg, BaseReply, Flights, Phase, Recs, Tier, TierRec}
 use Rattle.tier_join.specs.Group.{Doubt, Memory, TwoMaps, View, ActIsNext, AreLeft, EpochIsNext, IsSoundMemory, ShowsIn, Spells, SpellsDoubt, changed_in, store_in, tier_of, with_act, with_epoch, with_store}
-use Rattle.tier_join.specs.Maps.{IsEpochOf, IsLeft, IsRecOf, IsStateOf, epoch_key, record_key, state_key}
+use Rattle.pool_keys.specs.Keys.{epoch_key, record_key, state_key}
+use Rattle.pool_keys.specs.Left.{IsLeft}
+use Rattle.pool_keys.specs.Values.{IsEpochOf, IsRecOf, IsStateOf}
 use Rattle.tier_join.specs.Promises.{with_req}
 
 -- ---- what was read
