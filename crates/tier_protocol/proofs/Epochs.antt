@@ -20,8 +20,10 @@ told_as base new later (BaseReply.NoSpace e op used need limit) h = λ ne. omega
 told_as base new later (BaseReply.OldEpoch have got) h = omega (arith, later, h)
 told_as base new later (BaseReply.NotFenced have got) h = h
 
-pub epochs_as : (net new : Net) → (new.phase ≡ Phase.Up → new.base_epoch ≡ new.cache_epoch) → (0 < new.cache_epoch → new.base_epoch ≤ new.cache_epoch)
-    → net.base_epoch ≤ new.base_epoch → AreIn new.wire net.wire → AreIn new.replies net.replies → SoundEpochs net → SoundEpochs new
+pub epochs_as : (net new : Net) → (new.phase ≡ Phase.Up → new.base_epoch ≡ new.cache_epoch)
+    → (0 < new.cache_epoch → new.base_epoch ≤ new.cache_epoch)
+    → net.base_epoch ≤ new.base_epoch → AreIn new.wire net.wire → AreIn new.replies net.replies
+    → SoundEpochs net → SoundEpochs new
 epochs_as net new level behind later fewer less h = record {
   level = level;
   behind = behind;
@@ -29,18 +31,28 @@ epochs_as net new level behind later fewer less h = record {
   told = λ p on. told_as net.base_epoch new.base_epoch later p (h.told p (less p on));
 }
 
-pub epochs_replied : (net : Net) (p : BaseReply) → SoundEpochs net → IsTold net.base_epoch p → SoundEpochs (record net { replies = p ∷ net.replies })
+pub epochs_replied : (net : Net) (p : BaseReply) → SoundEpochs net → IsTold net.base_epoch p
+    → SoundEpochs (record net { replies = p ∷ net.replies })
 epochs_replied net p h told = record {
   level = h.level;
   behind = h.behind;
   known = h.known;
-  told = λ x on. elim on [ inl same ↦ subst (IsTold net.base_epoch) (sym same) told | inr old ↦ h.told x old ];
+  told = λ x on. elim on [
+    | inl same ↦ subst (IsTold net.base_epoch)
+        (sym same) told
+    | inr old ↦ h.told x old
+  ];
 }
 
-pub epochs_sent : (net : Net) (m : BaseMsg) → SoundEpochs net → IsKnown net.base_epoch m → SoundEpochs (record net { wire = m ∷ net.wire })
+pub epochs_sent : (net : Net) (m : BaseMsg) → SoundEpochs net → IsKnown net.base_epoch m
+    → SoundEpochs (record net { wire = m ∷ net.wire })
 epochs_sent net m h known = record {
   level = h.level;
   behind = h.behind;
-  known = λ x on. elim on [ inl same ↦ subst (IsKnown net.base_epoch) (sym same) known | inr old ↦ h.known x old ];
+  known = λ x on. elim on [
+    | inl same ↦ subst (IsKnown net.base_epoch)
+        (sym same) known
+    | inr old ↦ h.known x old
+  ];
   told = h.told;
 }

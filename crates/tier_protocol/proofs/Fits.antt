@@ -20,11 +20,20 @@ use Rattle.tier_protocol.proofs.Steps.{beginning, going_up, raising, sending}
 
 -- a message of the base's own epoch is served
 in_epoch_same : (have e : ℕ) (done : Served) → e ≡ have → in_epoch have e done ≡ done
-in_epoch_same have e done same = rw (le-ltb e have (omega (arith, same)), le-ltb have e (omega (arith, same))) refl
+in_epoch_same have e done same = rw (
+  le-ltb e have (omega (arith, same)),
+  le-ltb have e (omega
+      (arith, same)),
+) refl
 
 pub starts_up : StartsAreUp
 starts_up t h down = (
-  subst (λ u. IsSound (went_up u)) (sym is) (going_up told (subst IsSound is (delivering asked (BaseMsg.Fence e) first (inl refl))) (record { raised = λ same. absurd (cc); reply = inl refl })).0,
+  subst (λ u. IsSound (went_up u)) (sym is) (going_up told (subst IsSound is (delivering asked
+      (BaseMsg.Fence e) first (inl refl))) (record {
+        raised = λ same. absurd
+            (cc);
+        reply = inl refl;
+      })).0,
   subst (λ u. t.net.base_epoch < (went_up u).net.base_epoch) (sym is) (omega arith),
 )
   where
@@ -35,20 +44,27 @@ starts_up t h down = (
     asked = sent (BaseMsg.Fence e) (raised t)
 
     first : IsSound asked
-    first = sending (raised t) (BaseMsg.Fence e) (raising t e h (record { stopped = down; later = omega arith; above = omega arith })) (refl, λ same. absurd (cc))
+    first = sending (raised t) (BaseMsg.Fence e) (raising t e h
+        (record { stopped = down; later = omega arith; above = omega arith })) (
+          refl,
+          λ same. absurd
+              (cc),
+        )
 
     told : Tier
     told = with_served (BaseMsg.Fence e) (replies e (BaseReply.Fenced e)) asked
 
     is : delivered (BaseMsg.Fence e) asked ≡ told
-    is = ap (λ b. with_served (BaseMsg.Fence e) (if b then replies t.net.base_epoch (BaseReply.OldEpoch t.net.base_epoch e) else replies e (BaseReply.Fenced e)) asked)
+    is = ap (λ b. with_served (BaseMsg.Fence e) (if b then replies t.net.base_epoch
+        (BaseReply.OldEpoch t.net.base_epoch e) else replies e (BaseReply.Fenced e)) asked)
         (le-ltb e t.net.base_epoch (omega arith))
 
 pub writes_land : WritesLand
 writes_land t call r s answer h up none free acts = (
   second,
   subst (λ u. u.acts ≡ t.acts ++ r ∷ []) (sym is) refl,
-  subst (λ u. MayLand u r.name (Some call) call t.net.next_opid r (BaseActed.Fresh answer)) (sym is) (record { flight = flight; reply = inl refl }),
+  subst (λ u. MayLand u r.name (Some call) call t.net.next_opid r (BaseActed.Fresh answer)) (sym is)
+      (record { flight = flight; reply = inl refl }),
 )
   where
     f : Flight
@@ -64,25 +80,33 @@ writes_land t call r s answer h up none free acts = (
     flight = ap (λ c. c.flight) (flight_here (with_net next t) r.name (Some f))
 
     second : IsSound (write_asked call r t)
-    second = sending (begun r.name f t) m (beginning t r.name f h up (free, none, refl, refl)) (refl, (Some call, call, flight))
+    second = sending (begun r.name f t) m (beginning t r.name f h up (free, none, refl, refl))
+        (refl, (Some call, call, flight))
 
     wrote : Acted → Served
     wrote a = record { epoch = t.net.base_epoch; put = put_by a; reply = BaseReply.Wrote t.net.cache_epoch t.net.next_opid (told_of a) }
 
     on_base : act (state_of t.base r.name) r ≡ Fresh s answer
-    on_base = subst (λ x. act x r ≡ Fresh s answer) (sym ((h.names r.name).clean (ap is_dirty none))) acts
+    on_base = subst (λ x. act x r ≡ Fresh s answer) (sym ((h.names r.name).clean
+        (ap is_dirty none))) acts
 
-    is : delivered m (write_asked call r t) ≡ with_served m (wrote (Fresh s answer)) (write_asked call r t)
-    is = ap (λ x. with_served m x (write_asked call r t)) (in_epoch_same t.net.base_epoch t.net.cache_epoch (wrote (act (state_of t.base r.name) r)) (sym (h.epochs.level up)) ∙ ap wrote on_base)
+    is : delivered m (write_asked call r t) ≡ with_served m (wrote (Fresh s answer))
+        (write_asked call r t)
+    is = ap (λ x. with_served m x (write_asked call r t))
+        (in_epoch_same t.net.base_epoch t.net.cache_epoch (wrote (act (state_of t.base r.name) r))
+        (sym (h.epochs.level up)) ∙ ap wrote on_base)
 
 pub flushes_clean : FlushesClean
 flushes_clean t k call r blocking drain h up rec dirty free = (
   second,
-  subst (λ u. MayClean u k call t.net.next_opid r.state.seq r.state.seq blocking drain r) (sym is) (record { flight = flight; reply = inl refl; rec = rec; same = refl }),
+  subst (λ u. MayClean u k call t.net.next_opid r.state.seq r.state.seq blocking drain r) (sym is)
+      (record { flight = flight; reply = inl refl; rec = rec; same = refl }),
   record {
-    clean = ap is_dirty (ap (λ c. c.rec) (rec_here (with_flight k None t) k (Some (record r { dirty = false }))));
+    clean = ap is_dirty (ap (λ c. c.rec) (rec_here (with_flight k None t) k (Some
+        (record r { dirty = false }))));
     up = up;
-    free = ap (λ c. c.flight) (rec_here (with_flight k None t) k (Some (record r { dirty = false }))) ∙ ap (λ c. c.flight) (flight_here t k None);
+    free = ap (λ c. c.flight) (rec_here (with_flight k None t) k (Some
+        (record r { dirty = false }))) ∙ ap (λ c. c.flight) (flight_here t k None);
   },
 )
   where
@@ -104,16 +128,25 @@ flushes_clean t k call r blocking drain h up rec dirty free = (
         (refl, (call, r.state.seq, blocking, drain, r, flight, rec, refl))
 
     installed : Served
-    installed = record { epoch = t.net.base_epoch; put = if nat_lt (state_of t.base k).seq r.state.seq then Some r.state else None; reply = BaseReply.Installed t.net.cache_epoch t.net.next_opid r.state.seq }
+    installed = record {
+      epoch = t.net.base_epoch;
+      put = if nat_lt
+          (state_of t.base k).seq r.state.seq then Some r.state else None;
+      reply = BaseReply.Installed t.net.cache_epoch t.net.next_opid r.state.seq;
+    }
 
-    is : delivered m (flush_asked k call r blocking drain t) ≡ with_served m installed (flush_asked k call r blocking drain t)
-    is = ap (λ x. with_served m x (flush_asked k call r blocking drain t)) (in_epoch_same t.net.base_epoch t.net.cache_epoch installed (sym (h.epochs.level up)))
+    is : delivered m (flush_asked k call r blocking drain t) ≡ with_served m installed
+        (flush_asked k call r blocking drain t)
+    is = ap (λ x. with_served m x (flush_asked k call r blocking drain t))
+        (in_epoch_same t.net.base_epoch t.net.cache_epoch installed (sym (h.epochs.level up)))
 
 pub promotions_go_on : PromotionsGoOn
 promotions_go_on t k call op gather ask at h f want =
-    let on = front_goes_on gather (cell_of t k).base at ((h.names k).gathered call op gather ask f) want in (
+    let on = front_goes_on gather (cell_of t k).base at
+    ((h.names k).gathered call op gather ask f) want in (
       on.chunk,
-      subst (λ u. MayGather u k call op gather ask on.chunk) (sym (is on.chunk on.there)) (record { flight = f; wanted = want ∙ ap Some (sym on.place); reply = inl refl }),
+      subst (λ u. MayGather u k call op gather ask on.chunk) (sym (is on.chunk on.there))
+          (record { flight = f; wanted = want ∙ ap Some (sym on.place); reply = inl refl }),
     )
   where
     m : BaseMsg
@@ -125,5 +158,8 @@ promotions_go_on t k call op gather ask at h f want =
     level : t.net.cache_epoch ≡ t.net.base_epoch
     level = sym (h.epochs.level ((h.memory.each k).up (λ free. absurd (cc))))
 
-    is : (x : Chunk) → chunk_at (chunks_of (cell_of t k).base) at ≡ Some x → delivered m (sent m t) ≡ with_served m (told (Some x)) (sent m t)
-    is x there = ap (λ y. with_served m y (sent m t)) (in_epoch_same t.net.base_epoch t.net.cache_epoch (told (chunk_at (chunks_of (cell_of t k).base) at)) level ∙ ap told there)
+    is : (x : Chunk) → chunk_at (chunks_of (cell_of t k).base) at ≡ Some x
+        → delivered m (sent m t) ≡ with_served m (told (Some x)) (sent m t)
+    is x there = ap (λ y. with_served m y (sent m t))
+        (in_epoch_same t.net.base_epoch t.net.cache_epoch (told (chunk_at (chunks_of
+        (cell_of t k).base) at)) level ∙ ap told there)

@@ -1,12 +1,17 @@
 pub mod Requests
 pub mod Cells
+pub mod Flying
 pub mod Memory
 pub mod Epochs
+pub mod NameStates
 pub mod Names
 pub mod Places
 pub mod Delivers
+pub mod Starts
 pub mod Steps
 pub mod Truth
 pub mod Worlds
 pub mod Fits
+pub mod ActLists
 pub mod Owners
+pub mod MemoryMoves

@@ -47,7 +47,8 @@ unfolding chunk_at
 told_place [] at x e = absurd (cc)
 told_place (c ∷ cs) at x e = by (told_place cs at x) (is_place at c.at) refl
   where
-    by : (find (λ (d : Chunk). is_place at d.at) cs ≡ Some x → at ≡ x.at) → (b : Bool) → is_place at c.at ≡ b → at ≡ x.at
+    by : (find (λ (d : Chunk). is_place at d.at) cs ≡ Some x → at ≡ x.at) → (b : Bool)
+        → is_place at c.at ≡ b → at ≡ x.at
     by later true is =
         let found : Some c ≡ Some x = sym (find_hit (λ d. is_place at d.at) c cs is) ∙ e in
         let same : c ≡ x = cc in

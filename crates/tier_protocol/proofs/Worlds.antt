@@ -17,7 +17,7 @@ use Rattle.tier_protocol.proofs.Delivers.{delivering}
 use Rattle.tier_protocol.proofs.Steps.{acting, cleaning, evicting, finding, going_up, leaving, losing, promoting, stopping}
 
 -- all of the work is left
-left_whole : (f : Option Flight) → IsLeftOf f f
+pub left_whole : (f : Option Flight) → IsLeftOf f f
 left_whole None = refl
 left_whole (Some (Flight.Promote call o gather ask)) = refl
 left_whole (Some (Flight.Write driver owner o r)) = (driver, refl)
@@ -28,7 +28,13 @@ pub doubt_keeps : DoubtKeeps
 doubt_keeps t m h on = record {
   without = h;
   within = losing (delivered m t) (taken m t) (delivering t m h on)
-      (record { same = refl; flights = λ n. left_whole (cell_of t n).flight; wire = λ x is. is; replies = λ p is. inr is });
+      (record {
+        same = refl;
+        flights = λ n. left_whole
+            (cell_of t n).flight;
+        wire = λ x is. is;
+        replies = λ p is. inr is;
+      });
   memory = record { flights = refl; wire = refl; replies = refl; next_opid = refl; phase = refl; fenced = refl; epoch = inl refl };
 }
 
@@ -45,7 +51,9 @@ same_memory t u flights net = record {
 }
 
 -- a promotion that ends
-promotion : (t : Tier) (k : Name) (call op : ℕ) (gather : List Chunk) (ask : Ask) (b : NameState) (moment : ℕ) → IsSound t → MayPromote t k call op gather ask b → AreWorlds (with_flight k None t) (promoted k b moment t)
+promotion : (t : Tier) (k : Name) (call op : ℕ) (gather : List Chunk) (ask : Ask) (b : NameState)
+    (moment : ℕ) → IsSound t → MayPromote t k call op gather ask b
+    → AreWorlds (with_flight k None t) (promoted k b moment t)
 promotion t k call op gather ask b moment h may = record {
   without = leaving t k None h (ap is_write may.flight);
   within = (promoting t k call op gather ask b moment h may).0;
@@ -53,42 +61,67 @@ promotion t k call op gather ask b moment h may = record {
 }
 
 -- one that serves its request at once
-served_at_once : (t : Tier) (k : Name) (call op : ℕ) (gather : List Chunk) (ask : Ask) (b : NameState) (moment : ℕ) (q : Req) (s : NameState) (answer : Reply) → IsSound t → MayPromote t k call op gather ask b
-    → q.name ≡ k → act b q ≡ Fresh s answer → AreWorlds (with_flight k None t) (acted_here q s moment (promoted k b moment t))
+served_at_once : (t : Tier) (k : Name) (call op : ℕ) (gather : List Chunk) (ask : Ask)
+    (b : NameState) (moment : ℕ) (q : Req) (s : NameState) (answer : Reply) → IsSound t
+    → MayPromote t k call op gather ask b
+    → q.name ≡ k → act b q ≡ Fresh s answer → AreWorlds (with_flight k None t)
+    (acted_here q s moment (promoted k b moment t))
 served_at_once t k call op gather ask b moment q s answer h may named acts = record {
   without = leaving t k None h (ap is_write may.flight);
-  within = acting (promoted k b moment t) r q s answer moment (promoting t k call op gather ask b moment h may).0 there;
-  memory = same_memory (with_flight k None t) (acted_here q s moment (promoted k b moment t)) refl refl;
+  within = acting (promoted k b moment t) r q s answer moment
+      (promoting t k call op gather ask b moment h may).0 there;
+  memory = same_memory (with_flight k None t) (acted_here q s moment
+      (promoted k b moment t)) refl refl;
 }
   where
     r : TierRec
     r = record { state = b; dirty = false; mtime = moment }
 
     free : (cell_of (promoted k b moment t) k).flight ≡ None
-    free = ap (λ c. c.flight) (rec_here (with_flight k None t) k (Some r)) ∙ ap (λ c. c.flight) (flight_here t k None)
+    free = ap (λ c. c.flight) (rec_here (with_flight k None t) k (Some r))
+        ∙ ap (λ c. c.flight) (flight_here t k None)
 
     there : MayActHere (promoted k b moment t) r q s answer
     there = record {
       up = (h.memory.each k).up (λ none. let f = may.flight in absurd (cc));
-      rec = subst (λ n. (cell_of (promoted k b moment t) n).rec ≡ Some r) (sym named) (ap (λ c. c.rec) (rec_here (with_flight k None t) k (Some r)));
-      lets = subst (λ n. lets_write (cell_of (promoted k b moment t) n).flight ≡ true) (sym named) (ap lets_write free);
+      rec = subst (λ n. (cell_of (promoted k b moment t) n).rec ≡ Some r) (sym named) (ap
+          (λ c. c.rec) (rec_here (with_flight k None t) k (Some r)));
+      lets = subst (λ n. lets_write (cell_of (promoted k b moment t) n).flight ≡ true) (sym named)
+          (ap lets_write free);
       acts = acts;
     }
 
 pub cache_doubt_keeps : CacheDoubtKeeps
 cache_doubt_keeps = (
   λ t r q s answer moment h may. record { without = h; within = acting t r q s answer moment h may; memory = same_memory t (acted_here q s moment t) refl refl },
-  λ t k call op gather ask b moment h may. (promotion t k call op gather ask b moment h may, λ q s answer named acts. served_at_once t k call op gather ask b moment q s answer h may named acts),
+  λ t k call op gather ask b moment h may.
+      (promotion t k call op gather ask b moment h may, λ q s answer named acts. served_at_once t k call op gather ask b moment q s answer h may named acts),
   λ t k call op seq m blocking drain r h may.
       let left = leaving t k None h (ap is_write may.flight) in
       let ends = cleaning t k call op seq m blocking drain r h may in (
-        record { without = left; within = ends.0; memory = same_memory (with_flight k None t) (cleaned k r t) refl refl },
-        record { without = left; within = ends.1; memory = same_memory (with_flight k None t) (drained k t) refl refl },
+        record {
+          without = left;
+          within = ends.0;
+          memory = same_memory (with_flight k None t)
+              (cleaned k r t) refl refl;
+        },
+        record {
+          without = left;
+          within = ends.1;
+          memory = same_memory (with_flight k None t)
+              (drained k t) refl refl;
+        },
       ),
-  λ t k h may. record { without = h; within = evicting t k h may; memory = same_memory t (evicted k t) refl refl },
+  λ t k h may. record {
+    without = h;
+    within = evicting t k h may;
+    memory = same_memory t
+        (evicted k t) refl refl;
+  },
 )
 
-not_fenced : (t : Tier) → IsSound t → t.net.phase ≡ Phase.Down → (b : Bool) → t.net.fenced ≡ b → t.net.fenced ≡ false
+not_fenced : (t : Tier) → IsSound t → t.net.phase ≡ Phase.Down → (b : Bool) → t.net.fenced ≡ b
+    → t.net.fenced ≡ false
 not_fenced t h down true is = let up = h.memory.wire.fenced is in absurd (cc)
 not_fenced t h down false is = is
 
@@ -112,7 +145,8 @@ worlds_go_on t u w = (
     memory = record { flights = m.flights; wire = m.wire; replies = m.replies; next_opid = m.next_opid; phase = m.phase; fenced = refl; epoch = m.epoch };
   },
   λ flights wire replies left fewer less. record {
-    without = losing t (with_left flights wire replies t) w.without (record { same = refl; flights = left; wire = fewer; replies = less });
+    without = losing t (with_left flights wire replies t) w.without
+        (record { same = refl; flights = left; wire = fewer; replies = less });
     within = losing u (with_left flights wire replies u) w.within (record {
       same = refl;
       flights = λ n. subst (λ f. IsLeftOf (fin.get f n) (fin.get flights n)) m.flights (left n);
@@ -127,13 +161,15 @@ worlds_go_on t u w = (
     m : HaveSameMemory t u
     m = w.memory
 
-    ups : MayGoUp t.net → (t.net.cache_epoch ≡ u.net.cache_epoch) ⊎ (t.net.phase ≡ Phase.Down) → AreWorlds (went_up t) (went_up u)
+    ups : MayGoUp t.net → (t.net.cache_epoch ≡ u.net.cache_epoch) ⊎ (t.net.phase ≡ Phase.Down)
+        → AreWorlds (went_up t) (went_up u)
     ups may (inr down) = absurd (may.raised down)
     ups may (inl same) = record {
       without = (going_up t w.without may).0;
       within = (going_up u w.within (record {
         raised = λ down. may.raised (m.phase ∙ down);
-        reply = subst (λ x. IsIn (BaseReply.Fenced u.net.cache_epoch) x) m.replies (subst (λ e. IsIn (BaseReply.Fenced e) t.net.replies) same may.reply);
+        reply = subst (λ x. IsIn (BaseReply.Fenced u.net.cache_epoch) x) m.replies (subst (λ e. IsIn
+            (BaseReply.Fenced e) t.net.replies) same may.reply);
       })).0;
       memory = record { flights = m.flights; wire = m.wire; replies = m.replies; next_opid = m.next_opid; phase = refl; fenced = refl; epoch = inl same };
     }

@@ -38,7 +38,8 @@ ChunksArePresent =
     → IsIn (BaseReply.Chunk t.net.cache_epoch op (Some x)) t.net.replies
     → chunk_at (chunks_of (cell_of t k).plain) x.at ≡ Some x
 
--- a request that acts on the base acts on the plain store in the same way, and its name has no record
+-- a request that acts on the base acts on the plain store in the same way, and its name has no
+-- record
 abbrev pub ActsAreFresh : Type 0
 ActsAreFresh =
     (t : Tier) (e op : ℕ) (r : Req) (s : NameState) (answer : Reply) → IsSound t
@@ -74,8 +75,8 @@ FlightsAreFenced =
     (t : Tier) (k : Name) → IsSound t → (cell_of t k).flight ≢ None
     → t.net.base_epoch ≡ t.net.cache_epoch
 
--- A Write that is no longer under way, of whatever time, changes nothing while the cache is up: even
--- where its name was promoted, written, flushed and evicted since.
+-- A Write that is no longer under way, of whatever time, changes nothing while the cache is up:
+-- even where its name was promoted, written, flushed and evicted since.
 abbrev pub LateWritesChangeNothing : Type 0
 LateWritesChangeNothing =
     (t : Tier) (e op : ℕ) (r : Req) → IsSound t → t.net.phase ≡ Phase.Up
@@ -92,15 +93,15 @@ ActedIsSpent =
     → IsSpent r.name (cell_of (delivered (BaseMsg.Write e op r) t) r.name)
     (delivered (BaseMsg.Write e op r) t).net r
 
--- no message takes a state of the base back to one that has had fewer requests: an Install that later
--- writes overtook comes to nothing
+-- no message takes a state of the base back to one that has had fewer requests: an Install that
+-- later writes overtook comes to nothing
 abbrev pub BaseNeverFalls : Type 0
 BaseNeverFalls =
     (t : Tier) (m : BaseMsg) (n : Name) → IsSound t → IsIn m t.net.wire
     → (state_of t.base n).seq ≤ (state_of (delivered m t).base n).seq
 
--- a record that is evicted, a whiteout too, leaves its whole state in the base, with what it keeps of
--- each client
+-- a record that is evicted, a whiteout too, leaves its whole state in the base, with what it keeps
+-- of each client
 abbrev pub EvictedStays : Type 0
 EvictedStays =
     (t : Tier) (k : Name) (r : TierRec) → IsSound t → MayEvict t k → (cell_of t k).rec ≡ Some r

@@ -12,7 +12,8 @@ use Rattle.tier_protocol.specs.Tiers.{Name, Ask, TierRec, BaseMsg, BaseReply, Ph
 use Rattle.tier_protocol.specs.Sound.{IsSound}
 use Rattle.tier_protocol.specs.Moves.{acted_here, cleaned, drained, epoch_found, evicted, promoted, stopped_base, stopped_cache, taken, went_up, with_flight, with_left, MayActHere, MayClean, MayEvict, MayGoUp, MayPromote, MayRaise}
 
--- what is in memory, or on the wire, and in neither pool; the cache's epoch too, unless the cache is down
+-- what is in memory, or on the wire, and in neither pool; the cache's epoch too, unless the cache
+-- is down
 pub record HaveSameMemory (t u : Tier) : Type 0 where
   pub flights : t.flights ≡ u.flights
   pub wire : t.net.wire ≡ u.net.wire
@@ -22,8 +23,8 @@ pub record HaveSameMemory (t u : Tier) : Type 0 where
   pub fenced : t.net.fenced ≡ u.net.fenced
   pub epoch : (t.net.cache_epoch ≡ u.net.cache_epoch) ⊎ (t.net.phase ≡ Phase.Down)
 
--- The two worlds of a doubt: the pair without the commit, and the pair with it. Both are sound, over one
--- memory; opening the store anew shows in which of them the tier is.
+-- The two worlds of a doubt: the pair without the commit, and the pair with it. Both are sound,
+-- over one memory; opening the store anew shows in which of them the tier is.
 pub record AreWorlds (t u : Tier) : Type 0 where
   pub without : IsSound t
   pub within : IsSound u
@@ -33,21 +34,23 @@ pub record AreWorlds (t u : Tier) : Type 0 where
 abbrev pub DoubtKeeps : Type 0
 DoubtKeeps = (t : Tier) (m : BaseMsg) → IsSound t → IsIn m t.net.wire → AreWorlds t (taken m t)
 
--- Commits of the cache: a request that acts; a promotion that ends, and one that serves its request at
--- once; a flush that ends; an eviction. Where the commit would end work, the call has ended with the
--- fault, and its work is gone in both worlds.
+-- Commits of the cache: a request that acts; a promotion that ends, and one that serves its request
+-- at once; a flush that ends; an eviction. Where the commit would end work, the call has ended with
+-- the fault, and its work is gone in both worlds.
 abbrev pub CacheDoubtKeeps : Type 0
 CacheDoubtKeeps =
     ((t : Tier) (r : TierRec) (q : Req) (s : NameState) (answer : Reply) (moment : ℕ)
     → IsSound t → MayActHere t r q s answer → AreWorlds t (acted_here q s moment t))
-    × ((t : Tier) (k : Name) (call op : ℕ) (gather : List Chunk) (ask : Ask) (b : NameState) (moment : ℕ)
+    × ((t : Tier) (k : Name) (call op : ℕ) (gather : List Chunk) (ask : Ask) (b : NameState)
+    (moment : ℕ)
     → IsSound t → MayPromote t k call op gather ask b
     → AreWorlds (with_flight k None t) (promoted k b moment t)
     × ((q : Req) (s : NameState) (answer : Reply) → q.name ≡ k → act b q ≡ Fresh s answer
     → AreWorlds (with_flight k None t) (acted_here q s moment (promoted k b moment t))))
     × ((t : Tier) (k : Name) (call : Option ℕ) (op seq m : ℕ) (blocking drain : Bool) (r : TierRec)
     → IsSound t → MayClean t k call op seq m blocking drain r
-    → AreWorlds (with_flight k None t) (cleaned k r t) × AreWorlds (with_flight k None t) (drained k t))
+    → AreWorlds (with_flight k None t) (cleaned k r t) × AreWorlds (with_flight k None t)
+    (drained k t))
     × ((t : Tier) (k : Name) → IsSound t → MayEvict t k → AreWorlds t (evicted k t))
 
 -- a commit of the cache's epoch, while the cache is down
@@ -56,8 +59,9 @@ EpochDoubtKeeps =
     (t : Tier) (e : ℕ) → IsSound t → MayRaise t e → t.net.phase ≡ Phase.Down
     → AreWorlds t (epoch_found e t)
 
--- Until the store is opened anew nothing but memory changes, and in both worlds alike: either pool stops;
--- messages and replies are lost, calls end and leave their work; the base's Fenced is received.
+-- Until the store is opened anew nothing but memory changes, and in both worlds alike: either pool
+-- stops; messages and replies are lost, calls end and leave their work; the base's Fenced is
+-- received.
 abbrev pub WorldsGoOn : Type 0
 WorldsGoOn =
     (t u : Tier) → AreWorlds t u

@@ -40,7 +40,8 @@ GatheringKeeps =
 -- a promotion ends with a clean record, of the state that the name has in the plain store
 abbrev pub PromotingKeeps : Type 0
 PromotingKeeps =
-    (t : Tier) (k : Name) (call op : ℕ) (gather : List Chunk) (ask : Ask) (s : NameState) (moment : ℕ)
+    (t : Tier) (k : Name) (call op : ℕ) (gather : List Chunk) (ask : Ask) (s : NameState)
+    (moment : ℕ)
     → IsSound t → MayPromote t k call op gather ask s
     → IsSound (promoted k s moment t) × (s ≡ (cell_of t k).plain)
 
@@ -147,8 +148,8 @@ FoundIsSound =
 abbrev pub SoundStands : Type 0
 SoundStands = (t : Tier) → IsSound t → StandsFor t.recs t.base (plain_of t)
 
--- The same of one name, by its record. Without one the base has the plain store's state; so have both
--- where it is clean; a dirty one has it, and the base is behind, or has it too.
+-- The same of one name, by its record. Without one the base has the plain store's state; so have
+-- both where it is clean; a dirty one has it, and the base is behind, or has it too.
 abbrev pub IsRecordOf : (dirty : Bool) → NameState → NameState → NameState → Type 0
 IsRecordOf true r b s = (r ≡ s) × (b.seq ≤ r.seq) × (b.seq ≡ r.seq → b ≡ r)
 IsRecordOf false r b s = (r ≡ b) × (b ≡ s)

@@ -7,3 +7,4 @@ pub mod Answers
 pub mod Doubts
 pub mod Fitting
 pub mod Owners
+pub mod MemoryLaws

@@ -1,5 +1,5 @@
--- What holds of the cache's memory and the wire alone: no clause here speaks of a record, a state, or
--- the plain store, so all of it holds over stores that tell nothing of what they have, too.
+-- What holds of the cache's memory and the wire alone: no clause here speaks of a record, a state,
+-- or the plain store, so all of it holds over stores that tell nothing of what they have, too.
 use Rattle.std.specs.Prelude.{◌≡◌, ◌≢◌, ◌≤◌, ◌<◌, ℕ, ◌+◌, true, List, Option, Some, None}
 use Rattle.std.specs.FinMap as map
 use Rattle.copy_chunk.specs.declared.chunk.Chunk.{Chunk}
@@ -9,8 +9,8 @@ use Rattle.tier_protocol.specs.Tiers.{Name, Ask, Flight, ReadFlight, BaseMsg, Ba
 
 -- ---- epochs and operations' numbers
 
--- A message of some work, or a reply to it: its epoch was begun; until the base has told that it holds
--- a raised epoch none is of that epoch; and its operation's number was given out.
+-- A message of some work, or a reply to it: its epoch was begun; until the base has told that it
+-- holds a raised epoch none is of that epoch; and its operation's number was given out.
 pub record IsGivenOut (cache next : ℕ) (phase : Phase) (e op : ℕ) : Type 0 where
   pub begun : e ≤ cache
   pub silent : phase ≡ Phase.Raised → e < cache
@@ -63,7 +63,8 @@ abbrev pub IsOwn : Name → Option Flight → ℕ → BaseMsg → Type 0
 IsOwn n f epoch (BaseMsg.Fence e) = Unit {0}
 IsOwn n f epoch (BaseMsg.GetChunk e op k at) =
     e ≡ epoch → HasOpid f op → IsFor n f (BaseMsg.GetChunk e op k at)
-IsOwn n f epoch (BaseMsg.Look e op k v) = e ≡ epoch → HasOpid f op → IsFor n f (BaseMsg.Look e op k v)
+IsOwn n f epoch (BaseMsg.Look e op k v) = e ≡ epoch → HasOpid f op
+    → IsFor n f (BaseMsg.Look e op k v)
 IsOwn n f epoch (BaseMsg.Write e op r) = e ≡ epoch → HasOpid f op → IsFor n f (BaseMsg.Write e op r)
 IsOwn n f epoch (BaseMsg.Install e op k s) =
     e ≡ epoch → HasOpid f op → IsFor n f (BaseMsg.Install e op k s)
@@ -73,12 +74,14 @@ pub record SoundFlight (n : Name) (f : Option Flight) (net : Net) : Type 0 where
   pub up : f ≢ None → net.phase ≡ Phase.Up
   pub counted : (op : ℕ) → HasOpid f op → (0 < op) × (op < net.next_opid)
   -- a request under way, or one that a promotion will serve, is of this name
-  pub named : (driver : Option ℕ) (owner op : ℕ) (r : Req) → f ≡ Some (Flight.Write driver owner op r)
+  pub named : (driver : Option ℕ) (owner op : ℕ) (r : Req) → f ≡ Some
+      (Flight.Write driver owner op r)
       → r.name ≡ n
   pub asked : (call op : ℕ) (gather : List Chunk) (ask : Ask)
       → f ≡ Some (Flight.Promote call op gather ask) → name_asked ask ≡ n
   -- reads of one number are one read
-  pub single : (list : List ReadFlight) (r q : ReadFlight) → f ≡ Some (Flight.Reads list) → IsIn r list
+  pub single : (list : List ReadFlight) (r q : ReadFlight) → f ≡ Some (Flight.Reads list)
+      → IsIn r list
       → IsIn q list → r.opid ≡ q.opid → r ≡ q
   pub own : (m : BaseMsg) → IsIn m net.wire → IsOwn n f net.cache_epoch m
 

@@ -1,5 +1,5 @@
--- The moves of the pair, each with what it needs. A step of a tier is one of these, or some of them one
--- after another.
+-- The moves of the pair, each with what it needs. A step of a tier is one of these, or some of them
+-- one after another.
 use Rattle.std.specs.Prelude.{◌≡◌, ◌≢◌, ◌<◌, ℕ, ◌+◌, max, Bool, true, false, List, [], ◌∷◌, ◌++◌, Option, Some, None}
 use Rattle.std.specs.FinMap as map
 use Rattle.copy_chunk.specs.Gathers.{joined, wanted}
@@ -97,7 +97,8 @@ abbrev pub acted_here : Req → NameState → ℕ → Tier → Tier
 acted_here q s moment t =
     with_rec q.name (Some (record { state = s; dirty = true; mtime = moment })) (with_act q t)
 
-pub record MayActHere (t : Tier) (r : TierRec) (q : Req) (s : NameState) (answer : Reply) : Type 0 where
+pub record MayActHere (t : Tier) (r : TierRec) (q : Req) (s : NameState)
+    (answer : Reply) : Type 0 where
   pub up : t.net.phase ≡ Phase.Up
   pub rec : (cell_of t q.name).rec ≡ Some r
   pub lets : lets_write (cell_of t q.name).flight ≡ true
@@ -108,7 +109,8 @@ abbrev pub held : Name → Option TierRec → Tier → Tier
 held k v t = with_rec k v (with_flight k None t)
 
 -- the chunk that a promotion wants came
-pub record MayGather (t : Tier) (k : Name) (call op : ℕ) (gather : List Chunk) (ask : Ask) (x : Chunk) : Type 0 where
+pub record MayGather (t : Tier) (k : Name) (call op : ℕ) (gather : List Chunk) (ask : Ask)
+    (x : Chunk) : Type 0 where
   pub flight : (cell_of t k).flight ≡ Some (Flight.Promote call op gather ask)
   pub wanted : wanted gather ≡ Some x.at
   pub reply : IsIn (BaseReply.Chunk t.net.cache_epoch op (Some x)) t.net.replies
@@ -118,7 +120,8 @@ gathered k call op gather ask x t =
     with_flight k (Some (Flight.Promote call op (gather ++ x ∷ []) ask)) t
 
 -- all chunks of a promotion are there: they are the record, which is clean
-pub record MayPromote (t : Tier) (k : Name) (call op : ℕ) (gather : List Chunk) (ask : Ask) (s : NameState) : Type 0 where
+pub record MayPromote (t : Tier) (k : Name) (call op : ℕ) (gather : List Chunk) (ask : Ask)
+    (s : NameState) : Type 0 where
   pub flight : (cell_of t k).flight ≡ Some (Flight.Promote call op gather ask)
   pub whole : joined gather ≡ Some s
 
@@ -126,7 +129,8 @@ abbrev pub promoted : Name → NameState → ℕ → Tier → Tier
 promoted k s moment t = held k (Some (record { state = s; dirty = false; mtime = moment })) t
 
 -- the base has the state that a flush set out with, and no request acted on the record since
-pub record MayClean (t : Tier) (k : Name) (call : Option ℕ) (op seq m : ℕ) (blocking drain : Bool) (r : TierRec) : Type 0 where
+pub record MayClean (t : Tier) (k : Name) (call : Option ℕ) (op seq m : ℕ) (blocking drain : Bool)
+    (r : TierRec) : Type 0 where
   pub flight : (cell_of t k).flight ≡ Some (Flight.Flush call op seq blocking drain)
   pub reply : IsIn (BaseReply.Installed t.net.cache_epoch op m) t.net.replies
   pub rec : (cell_of t k).rec ≡ Some r
@@ -158,8 +162,8 @@ begun k f t = with_flight k (Some f) (with_net (record t.net { next_opid = t.net
 abbrev pub reads_with : Option Flight → ReadFlight → List ReadFlight
 reads_with f r = reads_of f ++ r ∷ []
 
--- The work that may begin on a name: a promotion, a write request or one more read where there is no
--- record; a flush of a dirty record. All but a read want the name free.
+-- The work that may begin on a name: a promotion, a write request or one more read where there is
+-- no record; a flush of a dirty record. All but a read want the name free.
 abbrev pub MayBegin : Tier → Name → Flight → Type 0
 MayBegin t k (Flight.Promote call o gather ask) =
     ((cell_of t k).flight ≡ None) × ((cell_of t k).rec ≡ None) × (o ≡ t.net.next_opid)
@@ -174,9 +178,9 @@ MayBegin t k (Flight.Flush call o seq blocking drain) =
     ((cell_of t k).flight ≡ None) × (o ≡ t.net.next_opid)
     × ((r : TierRec) × ((cell_of t k).rec ≡ Some r) × (r.dirty ≡ true) × (r.state.seq ≡ seq))
 
--- The message that work sends, at first, again, or where another call takes it over: a promotion asks
--- for the chunk that it wants, and a flush sends the state that the record has now. A Fence is sent
--- while nothing is under way in its epoch, or again later.
+-- The message that work sends, at first, again, or where another call takes it over: a promotion
+-- asks for the chunk that it wants, and a flush sends the state that the record has now. A Fence is
+-- sent while nothing is under way in its epoch, or again later.
 abbrev pub MaySend : Tier → BaseMsg → Type 0
 MaySend t (BaseMsg.Fence e) = (e ≡ t.net.cache_epoch) × (t.net.phase ≢ Phase.Down)
 MaySend t (BaseMsg.GetChunk e op k at) =
@@ -185,7 +189,8 @@ MaySend t (BaseMsg.GetChunk e op k at) =
     × ((cell_of t k).flight ≡ Some (Flight.Promote call op gather ask)) × (wanted gather ≡ Some at))
 MaySend t (BaseMsg.Look e op k v) =
     (e ≡ t.net.cache_epoch)
-    × ((list : List ReadFlight) × (r : ReadFlight) × ((cell_of t k).flight ≡ Some (Flight.Reads list))
+    × ((list : List ReadFlight) × (r : ReadFlight) × ((cell_of t k).flight ≡ Some
+    (Flight.Reads list))
     × IsIn r list × (r.opid ≡ op) × (r.vector ≡ v))
 MaySend t (BaseMsg.Write e op r) =
     (e ≡ t.net.cache_epoch)
@@ -201,7 +206,8 @@ abbrev pub sent : BaseMsg → Tier → Tier
 sent m t = with_net (record t.net { wire = m ∷ t.net.wire }) t
 
 -- the base told what became of a write request: the work on the name ends
-pub record MayLand (t : Tier) (k : Name) (driver : Option ℕ) (owner op : ℕ) (r : Req) (a : BaseActed) : Type 0 where
+pub record MayLand (t : Tier) (k : Name) (driver : Option ℕ) (owner op : ℕ) (r : Req)
+    (a : BaseActed) : Type 0 where
   pub flight : (cell_of t k).flight ≡ Some (Flight.Write driver owner op r)
   pub reply : IsIn (BaseReply.Wrote t.net.cache_epoch op a) t.net.replies
 
@@ -226,7 +232,8 @@ pub record Loses (t u : Tier) : Type 0 where
 -- the cache stops: its work is forgotten, and it is down
 abbrev pub stopped_cache : Tier → Tier
 stopped_cache t =
-    with_net (record t.net { phase = Phase.Down; fenced = false }) (record t { flights = map.empty })
+    with_net (record t.net { phase = Phase.Down; fenced = false })
+    (record t { flights = map.empty })
 
 -- the base stops: what it has stays, but it has to be told the epoch anew
 abbrev pub stopped_base : Tier → Tier

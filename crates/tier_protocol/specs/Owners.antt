@@ -1,5 +1,5 @@
--- Whose act it is. A Write may act when its call has ended long ago and no work stands, so the call and
--- its line are kept beside the message.
+-- Whose act it is. A Write may act when its call has ended long ago and no work stands, so the call
+-- and its line are kept beside the message.
 use Rattle.std.specs.Prelude.{◌≡◌, ◌≢◌, ◌≤◌, ◌⊎◌, ℕ, suc, Bool, false, List, [], ◌∷◌, ◌++◌, map, Option, Some, None, if◌then◌else◌, ◌==◌}
 use Rattle.std.specs.Option.{option_map}
 use Rattle.obj_model.specs.declared.reply.Reply.{Reply}
@@ -67,11 +67,14 @@ pub record SoundWriting (t : Tier) (l : Ledger) (n : Name) (owner op : ℕ) (r :
   pub asked : l.asks owner ≡ Some (record { line = line; req = r })
   pub pending : l.closed owner ≡ false
   -- where the owner has an act, the base answers the request again, with the act's reply
-  pub acted : (a : CallAct) → IsIn a l.acts → a.call ≡ owner → (a.req ≡ r) × (act (cell_of t n).base r ≡ Again a.reply)
+  pub acted : (a : CallAct) → IsIn a l.acts → a.call ≡ owner → (a.req ≡ r)
+      × (act (cell_of t n).base r ≡ Again a.reply)
   -- what was sent under its number is of this owner
-  pub own : (o : Owned) → IsIn o l.owned → o.epoch ≡ t.net.cache_epoch → o.opid ≡ op → o.call ≡ owner
+  pub own : (o : Owned) → IsIn o l.owned → o.epoch ≡ t.net.cache_epoch → o.opid ≡ op
+      → o.call ≡ owner
   -- where the base told that the request acted just now, the owner has its act
-  pub told : (answer : Reply) → IsIn (BaseReply.Wrote t.net.cache_epoch op (BaseActed.Fresh answer)) t.net.replies
+  pub told : (answer : Reply) → IsIn (BaseReply.Wrote t.net.cache_epoch op
+      (BaseActed.Fresh answer)) t.net.replies
       → (a : CallAct) × IsIn a l.acts × (a.call ≡ owner)
 
 pub record SoundOwners (t : Tier) (l : Ledger) : Type 0 where
@@ -79,13 +82,19 @@ pub record SoundOwners (t : Tier) (l : Ledger) : Type 0 where
   -- each Write on the wire has an owner, who asked its request
   pub known : (e op : ℕ) (r : Req) → IsIn (BaseMsg.Write e op r) t.net.wire
       → (o : Owned) × IsIn o l.owned × (o.epoch ≡ e) × (o.opid ≡ op) × (o.req ≡ r)
-  pub asked : (o : Owned) → IsIn o l.owned → l.asks o.call ≡ Some (record { line = o.line; req = o.req })
+  pub asked : (o : Owned) → IsIn o l.owned → l.asks o.call ≡ Some
+      (record { line = o.line; req = o.req })
   pub given : (o : Owned) → IsIn o l.owned → IsGiven t.net o.epoch o.opid
+  -- each was sent in an epoch that the base had been told of
+  pub reached : (o : Owned) → IsIn o l.owned → o.epoch ≤ t.net.base_epoch
   -- each act is its call's request, and the call's one act
-  pub acted : (a : CallAct) → IsIn a l.acts → l.asks a.call ≡ Some (record { line = a.line; req = a.req })
+  pub acted : (a : CallAct) → IsIn a l.acts → l.asks a.call ≡ Some
+      (record { line = a.line; req = a.req })
   pub once : AreOnce l.acts
-  -- a Write that the base would take is spent, or its owner has no act and was not answered for good
-  pub pending : (o : Owned) → IsIn o l.owned → t.net.base_epoch ≤ o.epoch
+  -- a Write on the wire that the base would take is spent, or its owner has no act and was not
+  -- answered for good
+  pub pending : (o : Owned) → IsIn o l.owned → IsIn (BaseMsg.Write o.epoch o.opid o.req) t.net.wire
+      → t.net.base_epoch ≤ o.epoch
       → IsSpent o.req.name (cell_of t o.req.name) t.net o.req ⊎ IsOpen l o.call
   pub writing : (n : Name) (driver : Option ℕ) (owner op : ℕ) (r : Req)
       → (cell_of t n).flight ≡ Some (Flight.Write driver owner op r) → SoundWriting t l n owner op r
@@ -96,22 +105,28 @@ pub record SoundOwners (t : Tier) (l : Ledger) : Type 0 where
 abbrev pub with_call_act : CallAct → Ledger → Ledger
 with_call_act a l = record l { acts = l.acts ++ a ∷ [] }
 
--- A Write that acts on the base: the act is its owner's, who had none and was not answered for good.
+-- A Write that acts on the base: the act is its owner's, who had none and was not answered for
+-- good.
 abbrev pub ActsAreOwned : Type 0
 ActsAreOwned =
-    (t : Tier) (l : Ledger) (e op : ℕ) (r : Req) (s : NameState) (answer : Reply) → IsSound t → SoundOwners t l
-    → IsIn (BaseMsg.Write e op r) t.net.wire → e ≡ t.net.base_epoch → act (state_of t.base r.name) r ≡ Fresh s answer
+    (t : Tier) (l : Ledger) (e op : ℕ) (r : Req) (s : NameState) (answer : Reply) → IsSound t
+    → SoundOwners t l
+    → IsIn (BaseMsg.Write e op r) t.net.wire → e ≡ t.net.base_epoch
+    → act (state_of t.base r.name) r ≡ Fresh s answer
     → (o : Owned) × IsIn o l.owned × (o.epoch ≡ e) × (o.opid ≡ op) × (o.req ≡ r) × IsOpen l o.call
-    × SoundOwners (delivered (BaseMsg.Write e op r) t) (with_call_act (record { call = o.call; line = o.line; req = r; reply = answer }) l)
+    × SoundOwners (delivered (BaseMsg.Write e op r) t) (with_call_act
+    (record { call = o.call; line = o.line; req = r; reply = answer }) l)
 
--- A proxied write that lands: if its owner has an act, then of this request, and with the reply that
--- the base gave; it has one where the base told that it acted just now.
+-- A proxied write that lands: if its owner has an act, then of this request, and with the reply
+-- that the base gave; it has one where the base told that it acted just now.
 abbrev pub LandingFits : Type 0
 LandingFits =
-    (t : Tier) (l : Ledger) (k : Name) (driver : Option ℕ) (owner op : ℕ) (r : Req) (b : BaseActed) → IsSound t → SoundOwners t l
+    (t : Tier) (l : Ledger) (k : Name) (driver : Option ℕ) (owner op : ℕ) (r : Req) (b : BaseActed)
+    → IsSound t → SoundOwners t l
     → MayLand t k driver owner op r b
     → ((a : CallAct) → IsIn a l.acts → a.call ≡ owner → (a.req ≡ r) × (lasting b ≡ Again a.reply))
-    × ((answer : Reply) → b ≡ BaseActed.Fresh answer → (a : CallAct) × IsIn a l.acts × (a.call ≡ owner))
+    × ((answer : Reply) → b ≡ BaseActed.Fresh answer → (a : CallAct) × IsIn a l.acts
+    × (a.call ≡ owner))
 
 -- the number of a call's act stays, however many acts come behind it
 abbrev pub NumbersStay : Type 0

@@ -53,22 +53,23 @@ abbrev pub Shows : Option TierRec → NameState → Type 0
 Shows None s = Unit {0}
 Shows (Some r) s = r.state ≡ s
 
--- a state that the base has, or may be given, is not ahead of the plain store, and where it has had as
--- many requests it is the plain store's
+-- a state that the base has, or may be given, is not ahead of the plain store, and where it has had
+-- as many requests it is the plain store's
 pub record IsBehind (t s : NameState) : Type 0 where
   pub behind : t.seq ≤ s.seq
   pub level : t.seq ≡ s.seq → t ≡ s
 
 -- ---- what a reply is worth to the work that waits for it
 
--- A reply of this epoch, to the work that stands, tells what the base holds now. One that tells of no
--- chunk, of a want of space, or of epochs, says nothing of what the base holds.
+-- A reply of this epoch, to the work that stands, tells what the base holds now. One that tells of
+-- no chunk, of a want of space, or of epochs, says nothing of what the base holds.
 abbrev pub IsTrueOf : Cell → ℕ → BaseReply → Type 0
 IsTrueOf c epoch (BaseReply.Fenced e) = Unit {0}
 IsTrueOf c epoch (BaseReply.Chunk e op None) = Unit {0}
 IsTrueOf c epoch (BaseReply.Chunk e op (Some x)) =
     e ≡ epoch → (call : ℕ) (gather : List Chunk) (ask : Ask)
-    → c.flight ≡ Some (Flight.Promote call op gather ask) → chunk_at (chunks_of c.base) x.at ≡ Some x
+    → c.flight ≡ Some (Flight.Promote call op gather ask) → chunk_at
+    (chunks_of c.base) x.at ≡ Some x
 IsTrueOf c epoch (BaseReply.Looked e op l) =
     e ≡ epoch → (list : List ReadFlight) (r : ReadFlight)
     → c.flight ≡ Some (Flight.Reads list) → IsIn r list → r.opid ≡ op → l ≡ look c.base r.vector
@@ -96,7 +97,8 @@ abbrev pub Covers : NameState → Req → Type 0
 Covers s r = is_past (act s r) ≡ true
 
 -- The request can act no more, whatever comes: the name is worn out in the base; or the request is
--- covered in the base, in the plain store, and in each state that could still take the base's place.
+-- covered in the base, in the plain store, and in each state that could still take the base's
+-- place.
 abbrev pub IsSpent : Name → Cell → Net → Req → Type 0
 IsSpent n c net r =
     (c.base.seq ≡ 2 ^ 62)
@@ -129,8 +131,8 @@ pub record SoundAt (n : Name) (c : Cell) (net : Net) : Type 0 where
   -- what a promotion has gathered are the first chunks of the base's state
   pub gathered : (call op : ℕ) (gather : List Chunk) (ask : Ask)
       → c.flight ≡ Some (Flight.Promote call op gather ask) → IsFront gather (chunks_of c.base)
-  -- a flush stands over a dirty record that has had no fewer requests than it had when it began; just
-  -- as many where clients wait
+  -- a flush stands over a dirty record that has had no fewer requests than it had when it began;
+  -- just as many where clients wait
   pub flushed : (call : Option ℕ) (op seq : ℕ) (blocking drain : Bool)
       → c.flight ≡ Some (Flight.Flush call op seq blocking drain)
       → (is_dirty c.rec ≡ true) × (seq ≤ c.plain.seq) × (blocking ≡ true → seq ≡ c.plain.seq)

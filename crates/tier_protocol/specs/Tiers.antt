@@ -27,8 +27,8 @@ abbrev pub Flights : Type 0
 Flights = map.FinMap name_cmp Flight
 
 -- The wire and what the cache remembers of it: messages that may still reach the base, replies that
--- may still be received, the epochs of both pools, the next operation's number, how far the cache has
--- come since its last stop, and whether the base told its epoch since its own last stop.
+-- may still be received, the epochs of both pools, the next operation's number, how far the cache
+-- has come since its last stop, and whether the base told its epoch since its own last stop.
 pub record Net : Type 0 where
   pub wire : List BaseMsg
   pub replies : List BaseReply
@@ -38,8 +38,8 @@ pub record Net : Type 0 where
   pub phase : Phase
   pub fenced : Bool
 
--- The whole: the cache's records, the base's states, the work under way, the plain store as it was at
--- the beginning with the requests that acted on it since, and the wire.
+-- The whole: the cache's records, the base's states, the work under way, the plain store as it was
+-- at the beginning with the requests that acted on it since, and the wire.
 pub record Tier : Type 0 where
   pub recs : Recs
   pub base : Store

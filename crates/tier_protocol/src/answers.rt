@@ -11,13 +11,15 @@ pub fn writes_are_true()
     ensures { WritesAreTrue }
 {}
 
-/// A promotion is given chunks of the present state: none of an earlier promotion is taken for one of its own.
+/// A promotion is given chunks of the present state: none of an earlier promotion is taken for one
+/// of its own.
 #[tactic(auto, using(crate::proofs::Truth::chunks_present))]
 pub fn chunks_are_present()
     ensures { ChunksArePresent }
 {}
 
-/// A request that acts on the base acts on the plain store in the same way, where there is no record.
+/// A request that acts on the base acts on the plain store in the same way, where there is no
+/// record.
 pub fn acts_are_fresh()
     ensures { ActsAreFresh }
 {}

@@ -1,8 +1,8 @@
 //! Each move keeps the pair sound.
 ghost use Rattle.tier_protocol.specs.Laws.{ActingKeeps, BaseAlone, BeginningKeeps, CleaningKeeps, CountingKeeps, DeliveringKeeps, EachStands, EvictingKeeps, FillingKeeps, FindingKeeps, FoundIsSound, GatheringKeeps, GoingUpKeeps, HistoryIsLegal, LandingKeeps, LeavingKeeps, LosingKeeps, PromotingKeeps, RaisingKeeps, SendingKeeps, SoundStands, StoppingKeeps};
 
-/// Whatever message of the wire the base is given, for the first time, again or late: what it does to its
-/// states and what it replies keep the pair sound.
+/// Whatever message of the wire the base is given, for the first time, again or late: what it does
+/// to its states and what it replies keep the pair sound.
 #[tactic(auto, using(crate::proofs::Delivers::delivering))]
 pub fn delivering_keeps()
     ensures { DeliveringKeeps }

@@ -1,18 +1,20 @@
 //! Whose act it is, where a Write acts after its call has ended.
 ghost use Rattle.tier_protocol.specs.Owners.{ActsAreOwned, LandingFits, LossesAreQuiet, NumbersStay, QuietKeeps};
 
-/// A Write that acts on the base gives its act to the call that owns it, which had none and was not answered for good.
+/// A Write that acts on the base gives its act to the call that owns it, which had none and was not
+/// answered for good.
 pub fn acts_are_owned()
     ensures { ActsAreOwned }
 {}
 
-/// Where the owner of a proxied write has an act when it lands, the base answers with the reply of this act; and it has
-/// one where the base told that the request acted just now.
+/// Where the owner of a proxied write has an act when it lands, the base answers with the reply of
+/// this act; and it has one where the base told that the request acted just now.
 pub fn landing_fits()
     ensures { LandingFits }
 {}
 
-/// The number of a call's act stays, however many acts of other names come between its delivery and its receipt.
+/// The number of a call's act stays, however many acts of other names come between its delivery and
+/// its receipt.
 pub fn numbers_stay()
     ensures { NumbersStay }
 {}

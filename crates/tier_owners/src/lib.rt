@@ -1,0 +1,23 @@
+//! Whose act each Write will be, through every move, and what holds over every run of moves.
+//!
+//! `specs/Calls.antt` says what is written down of calls, and that each move keeps it;
+//! `specs/Moving.antt` has one relation of all moves, and `specs/Runs.antt` the laws over lists of
+//! them: from a pair as it is found when it is attached, in every moment of every run, the history
+//! is legal, no request id acts twice, each act is its call's, what readers and writers are told is
+//! what one plain store tells, and a drained base alone is that store. The calls of this crate do
+//! nothing: their contracts are the laws, and the layers above cite these.
+#![tactic(auto)]
+
+mod owning;
+mod running;
+
+pub use owning::{
+    acting_keeps_owners, answered_here_may_close, asking_keeps_owners, beginning_keeps_owners,
+    closing_keeps_owners, counting_keeps_owners, delivering_keeps_owners, found_is_owned,
+    landed_may_close, readers_may_close, sending_keeps_owners, unsent_may_close,
+    writing_keeps_owners,
+};
+pub use running::{
+    closed_act_no_more, history_grows, legal_act_once, moves_keep, runs_are_faithful, runs_keep,
+    taken_is_lost,
+};
