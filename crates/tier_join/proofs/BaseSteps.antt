@@ -1,5 +1,5 @@
 -- Messages that the base is given.
-use Rattle.std.proofs.Common.{◌≡◌, ◌≢◌, ◌⊎◌, ◌<◌, ◌≤◌, inl, inr, ℕ, ◌+◌, ◌++◌, Bool, true, false, List, [], ◌∷◌, Option, Some, None, Err, refl, sym, ap, ap₂, subst, ◌∙◌, arith}
+use Rattle.std.proofs.Common.{◌≡◌, ◌⊎◌, ◌≤◌, inl, inr, ℕ, Bool, true, false, List, Option, Some, None, Err, refl, sym, ap, ap₂, subst, ◌∙◌, arith}
 use Rattle.std.specs.Prelude.{nat_lt, if◌then◌else◌}
 use Rattle.std.specs.FinMap as fin
 use Rattle.std.proofs.lemmas.Bool.{le-ltb}
@@ -17,23 +17,22 @@ use Rattle.rec_codec.specs.Spelling.{SpellsState}
 use Rattle.store_face.specs.declared.fault.StoreFault.{StoreFault}
 use Rattle.store_face.specs.declared.fault.StoreFault.TheVariants.{Disk, BadImage, NoSpace, Worn, NoMemory}
 use Rattle.tier_types.specs.Serving.{Served, in_epoch, name_in, put_by, replies, served}
-use Rattle.tier_protocol.specs.Tiers.{Name, BaseMsg, BaseReply, IsIn, Recs, Tier}
+use Rattle.tier_protocol.specs.Tiers.{Name, BaseMsg, BaseReply, IsIn, Tier}
 use Rattle.tier_protocol.specs.Sound.{IsSound}
-use Rattle.tier_protocol.specs.Moves.{acts_with, delivered, filled, put_at, set_at, state_for, with_served}
+use Rattle.tier_protocol.specs.Moves.{acts_with, delivered, put_at, state_for, with_served}
 use Rattle.tier_protocol.proofs.Cells.{get_here}
 use Rattle.tier_protocol.proofs.Delivers.{acts_on_plain, delivering, filling, in_epoch_by}
 use Rattle.tier_protocol.proofs.Requests.{replay_more}
 use Rattle.tier_protocol.proofs.Worlds.{doubt_keeps}
-use Rattle.tier_join.specs.Group.{Doubt, Memory, TwoMaps, View, ActIsNext, AreLeft, EpochIsNext, HasStateAt, IsSoundMemory, ShowsIn, Spells, SpellsDoubt, changed_in, tier_of, with_act, with_epoch}
+use Rattle.tier_join.specs.Group.{Doubt, Memory, TwoMaps, View, ActIsNext, AreLeft, EpochIsNext, HasStateAt, Spells, SpellsDoubt, changed_in, tier_of}
 use Rattle.pool_keys.proofs.Bases.{state_one}
 use Rattle.pool_keys.specs.Keys.{epoch_key, state_key}
 use Rattle.pool_keys.specs.Maps.{SpellsBase}
-use Rattle.pool_keys.specs.Values.{SpellsEpoch}
 use Rattle.tier_join.specs.Promises.{as_it_is}
 use Rattle.tier_join.specs.Laws.{AnsweringPromises, FencingPromises, PuttingPromises}
 use Rattle.tier_join.specs.Steps.{HasState, HasStateFor, IsOver, Outcome, Owes, OwesMemory, act_of, after, doubt_of, no_space, sets}
 use Rattle.tier_join.proofs.Commits.{commit_promises}
-use Rattle.tier_join.proofs.Keys.{base_at, base_with, set_is}
+use Rattle.tier_join.proofs.Keys.{base_at, base_with}
 use Rattle.tier_join.proofs.MemoryMoves.{no_space_memory, served_memory}
 use Rattle.tier_join.proofs.Rests.{memory_promises}
 

@@ -1,32 +1,29 @@
 -- The commits of the cache.
-use Rattle.std.proofs.Common.{◌≡◌, ◌≢◌, ◌⊎◌, ◌<◌, inl, inr, ℕ, ◌++◌, Bool, true, false, List, [], ◌∷◌, Option, Some, None, refl, sym, ap, subst, ◌∙◌, arith}
+use Rattle.std.proofs.Common.{◌≡◌, ◌≢◌, inl, inr, ℕ, Bool, true, false, List, Option, Some, None, refl, sym, ap, subst, ◌∙◌}
 use Rattle.std.specs.FinMap as fin
-use Rattle.copy_chunk.specs.declared.chunk.Chunk.{Chunk}
 use Rattle.obj_model.specs.Names.{name_fault}
 use Rattle.obj_model.specs.declared.change.Pool.TheVariants.{Cache}
 use Rattle.obj_model.specs.declared.reply.Reply.{Reply}
 use Rattle.obj_model.specs.declared.req.Req.{Req}
-use Rattle.obj_model.specs.declared.state.NameState.{NameState}
 use Rattle.obj_ops.specs.declared.request.Acted.TheVariants.{Fresh}
 use Rattle.obj_ops.specs.Acts.{act}
 use Rattle.obj_ops.specs.Stores.{Store, replay, state_of}
-use Rattle.store_face.specs.Tables.{Table}
 use Rattle.store_face.specs.declared.fault.StoreFault.{StoreFault}
 use Rattle.store_face.specs.declared.fault.StoreFault.TheVariants.{Disk, BadImage, NoSpace, Worn, NoMemory}
 use Rattle.tier_types.specs.Flights.{is_write}
-use Rattle.tier_protocol.specs.Tiers.{Name, Ask, Net, Phase, Recs, Tier, TierRec, cell_of}
+use Rattle.tier_protocol.specs.Tiers.{Name, Net, Phase, Recs, TierRec}
 use Rattle.tier_protocol.specs.Sound.{IsSound}
-use Rattle.tier_protocol.specs.Moves.{acted_here, cleaned, drained, epoch_found, evicted, promoted, raised_to, set_at, with_flight, MayActHere, MayClean, MayEvict, MayPromote}
+use Rattle.tier_protocol.specs.Moves.{raised_to, set_at, with_flight, MayActHere, MayClean, MayPromote}
 use Rattle.tier_protocol.proofs.Cells.{get_here, get_there}
 use Rattle.tier_protocol.proofs.Memory.{memory_raised}
 use Rattle.tier_protocol.proofs.Requests.{replay_more}
 use Rattle.tier_protocol.proofs.Steps.{acting, cleaning, evicting, finding, leaving, promoting, raising, shown}
 use Rattle.tier_protocol.proofs.Worlds.{cache_doubt_keeps}
-use Rattle.tier_join.specs.Group.{Doubt, Memory, TwoMaps, View, AreLeft, HasRecordAt, IsSoundMemory, ShowsIn, Spells, changed_in, tier_of, with_act, with_epoch}
+use Rattle.tier_join.specs.Group.{Doubt, Memory, TwoMaps, View, AreLeft, HasRecordAt, IsSoundMemory, ShowsIn, Spells, changed_in, tier_of, with_act}
 use Rattle.pool_keys.proofs.Caches.{record_one}
 use Rattle.pool_keys.specs.Keys.{epoch_key, record_key}
 use Rattle.pool_keys.specs.Maps.{SpellsBase, SpellsCache}
-use Rattle.pool_keys.specs.Values.{IsRecOf, SpellsEpoch}
+use Rattle.pool_keys.specs.Values.{IsRecOf}
 use Rattle.tier_join.specs.Promises.{as_it_is, with_req}
 use Rattle.tier_join.specs.Laws.{ActingPromises, CleaningPromises, DrainingPromises, EvictingPromises, PromotingActsPromises, PromotingPromises, RaisingPromises}
 use Rattle.tier_join.specs.Steps.{HasRec, Outcome, Owes, after, seen, sets, unless_disk}

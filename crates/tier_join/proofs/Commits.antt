@@ -1,6 +1,6 @@
 -- A commit in one of two stores, at all pairs of maps at once: what it owes at one pair is all that a step
 -- has to promise.
-use Rattle.std.proofs.Common.{◌≡◌, ◌⊎◌, inl, inr, ℕ, List, Option, Some, None, Ok, Err, refl, sym, ap, ap₂, subst, ◌∙◌}
+use Rattle.std.proofs.Common.{◌≡◌, ◌⊎◌, inl, inr, List, Option, Some, None, Ok, Err, refl, sym, ap, ap₂, subst, ◌∙◌}
 use Rattle.obj_model.specs.declared.change.Change.{Change}
 use Rattle.obj_model.specs.declared.change.Pool.{Pool}
 use Rattle.obj_model.specs.declared.change.Pool.TheVariants.{Cache, Base}
@@ -14,7 +14,7 @@ use Rattle.tier_protocol.proofs.Steps.{sound_stands}
 use Rattle.tier_join.specs.Group.{Doubt, Memory, TwoMaps, View, AreLeft, BeganAt, BothTell, IsRemembered, Spells, SpellsAny, SpellsDoubt, changed_in, store_in, store_now, tier_of, with_store}
 use Rattle.pool_keys.specs.Left.{AreTold, IsLeft, IsLeftSince}
 use Rattle.tier_join.specs.Promises.{AreLeftSince, Promises, StandsFor}
-use Rattle.tier_join.specs.Steps.{Commits, Outcome, Owes, behind, doubt_after, memory_after}
+use Rattle.tier_join.specs.Steps.{Commits, Outcome, Owes, doubt_after, memory_after}
 use Rattle.tier_join.proofs.Left.{FromLeft, made_left, made_since, now_since, rests_left, rests_now, rests_since, some_left, tells_on, torn_since}
 
 -- ---- two stores, of which one changes

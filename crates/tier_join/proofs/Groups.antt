@@ -1,13 +1,11 @@
 -- The general laws, as the crate's calls promise them.
-use Rattle.std.proofs.Common.{◌≡◌}
-use Rattle.store_face.specs.Tables.{Table}
 use Rattle.std.specs.FinMap as fin
-use Rattle.tier_join.specs.Laws.{CommitsPromise, GroupsGoOn, MemoryPromises, ReadingsHold, StepsJoin, WorldsPromise}
+use Rattle.tier_join.specs.Laws.{CommitsPromise, GroupsGoOn, ReadingsHold, StepsJoin}
 use Rattle.pool_keys.specs.Keys.{record_key, state_key}
 use Rattle.pool_keys.specs.Values.{IsRecOf, IsStateOf}
 use Rattle.tier_join.proofs.Commits.{commit_promises}
 use Rattle.tier_join.proofs.Left.{read_is_left}
-use Rattle.tier_join.proofs.Rests.{first_rests, memory_promises, then_rests, worlds_promise}
+use Rattle.tier_join.proofs.Rests.{first_rests, then_rests}
 
 pub groups_go_on : GroupsGoOn
 groups_go_on other v w p g = record {

@@ -1,8 +1,8 @@
 -- The clauses of a store's calls, over the maps that a stop may leave.
-use Rattle.std.proofs.Common.{◌≡◌, ◌⊎◌, inl, inr, ℕ, false, true, List, [], Option, Some, None, Ok, Err, refl, sym, ap, subst, ◌∙◌, arith}
+use Rattle.std.proofs.Common.{◌≡◌, ◌⊎◌, inl, inr, false, true, List, [], Option, Some, None, Ok, Err, refl, sym, subst, arith}
 use Rattle.obj_model.specs.declared.change.Change.{Change}
 use Rattle.pool_keys.specs.Laws.{IsLeftOrChanged}
-use Rattle.pool_keys.specs.Left.{AreTold, IsBefore, IsBeforeBy, IsLeft, IsLeftBy, IsLeftSince}
+use Rattle.pool_keys.specs.Left.{AreTold, IsBeforeBy, IsLeft, IsLeftBy, IsLeftSince}
 use Rattle.pool_keys.proofs.Leaving as leaving
 use Rattle.store_face.specs.Calls.{Among, Made, MayBeMade}
 use Rattle.store_face.specs.Tables.{Table, changed_by}

@@ -1,22 +1,19 @@
 -- Steps without a commit: work begins, sends, goes on and lands; and what may come at any moment.
-use Rattle.std.proofs.Common.{◌≡◌, ◌≢◌, ◌⊎◌, inl, inr, ℕ, ◌++◌, List, [], ◌∷◌, Option, Some, None, refl, sym, ap, subst, ◌∙◌}
+use Rattle.std.proofs.Common.{◌≡◌, ◌⊎◌, inl, inr, ℕ, ◌++◌, List, [], ◌∷◌, Option, None, refl, sym, subst, ◌∙◌}
 use Rattle.std.specs.FinMap as fin
 use Rattle.copy_chunk.specs.declared.chunk.Chunk.{Chunk}
-use Rattle.obj_model.specs.Names.{name_cmp}
 use Rattle.obj_ops.specs.Stores.{Store}
-use Rattle.tier_types.specs.Flights.{HasOpid, IsLeftOf}
-use Rattle.tier_protocol.specs.Tiers.{Name, Ask, AreIn, BaseMsg, BaseReply, Flight, Flights, IsIn, Phase, Recs, Tier, TierRec, cell_of}
-use Rattle.tier_protocol.specs.Memory.{SoundFlight}
+use Rattle.tier_protocol.specs.Tiers.{Name, BaseMsg, BaseReply, Flight, IsIn, Phase, Recs, TierRec}
 use Rattle.tier_protocol.specs.Sound.{IsSound}
-use Rattle.tier_protocol.specs.Moves.{begun, gathered, landed, sent, set_at, stopped_base, stopped_cache, went_up, MayBegin, MayGather, MayGoUp, MayLand, MaySend}
-use Rattle.tier_protocol.proofs.Cells.{get_here, get_there, same_or_not}
-use Rattle.tier_protocol.proofs.Memory.{flight_gathered, memory_at, memory_left, memory_stopped, memory_unfenced, memory_up}
+use Rattle.tier_protocol.specs.Moves.{begun, gathered, landed, sent, set_at, stopped_base, stopped_cache, went_up, MayBegin, MaySend}
+use Rattle.tier_protocol.proofs.Memory.{memory_left, memory_stopped, memory_unfenced, memory_up}
+use Rattle.tier_protocol.proofs.MemoryMoves as protocol
 use Rattle.tier_protocol.proofs.Steps.{beginning, gathering, going_up, landing, losing, sending, stopping}
 use Rattle.tier_join.specs.Group.{Memory, TwoMaps, View, AreLeft, IsSoundMemory, Spells, tier_of}
 use Rattle.pool_keys.specs.Maps.{SpellsBase, SpellsCache}
 use Rattle.tier_join.specs.Promises.{Promises, as_it_is}
 use Rattle.tier_join.specs.Laws.{BeginningPromises, GatheringPromises, GoingUpPromises, LandingPromises, LosingPromises, SendingPromises, StoppingPromises}
-use Rattle.tier_join.specs.Steps.{HasRec, HasRecFor, OwesMemory, OwesWorlds, Rests, after, left_with, seen, subject, with_doubt}
+use Rattle.tier_join.specs.Steps.{HasRecFor, OwesMemory, OwesWorlds, Rests, after, left_with, seen, subject, with_doubt}
 use Rattle.tier_join.proofs.CacheSteps.{rec_seen}
 use Rattle.tier_join.proofs.MemoryMoves.{begun_memory, free_memory, sent_memory}
 use Rattle.tier_join.proofs.Rests.{memory_promises, worlds_promise}
@@ -52,7 +49,7 @@ pub beginning_promises : BeginningPromises
 beginning_promises v w k f rec none has up may rests same =
     moves v w (after (begun k f) v.memory) none refl refl
     (λ start z i h. beginning (tier_of start v.memory h.recs h.base) k f h.sound up (begins_here start v.memory h.recs h.base k rec f (rec_seen start v z k rec has i h) may))
-    (λ h. begun_memory v.memory k rec h up f may) rests same
+    (λ h. begun_memory v.memory k rec f h up may) rests same
 
 -- the guard of a message, at each pair
 sends_here : (start : Store) (v : View) (z : TwoMaps) (msg : BaseMsg) (rec : Option TierRec) → HasRecFor v msg rec → AreLeft v z → (h : Spells start v.memory z)
@@ -68,16 +65,13 @@ pub sending_promises : SendingPromises
 sending_promises v w msg rec none has may rests same =
     moves v w (after (sent msg) v.memory) none refl refl
     (λ start z i h. sending (tier_of start v.memory h.recs h.base) msg h.sound (sends_here start v z msg rec has i h may))
-    (λ h. sent_memory v.memory (subject msg) rec h msg may) rests same
+    (λ h. sent_memory v.memory (subject msg) rec msg h may) rests same
 
 pub gathering_promises : GatheringPromises
 gathering_promises v w k call op gather ask x none may rests same =
     moves v w (after (gathered k call op gather ask x) v.memory) none refl refl
     (λ start z i h. gathering (tier_of start v.memory h.recs h.base) k call op gather ask x h.sound (record { flight = may.flight; wanted = may.wanted; reply = may.reply }))
-    (λ h.
-    memory_at v.memory.flights v.memory.net k (Some (Flight.Promote call op more ask)) h
-    (flight_gathered k v.memory.net call op gather more ask (subst (λ f. SoundFlight k f v.memory.net) may.flight (h.each k)))
-    (λ o has. subst (λ f. HasOpid f o) (sym may.flight) has)) rests same
+    (λ h. protocol.gathering v.memory.flights v.memory.net k call op gather more ask h may.flight) rests same
   where
     more : List Chunk
     more = gather ++ x ∷ []

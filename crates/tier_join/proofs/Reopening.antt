@@ -1,7 +1,6 @@
 -- A store is opened anew, and a doubt about it is settled.
-use Rattle.std.proofs.Common.{◌≡◌, ◌⊎◌, ◌<◌, inl, inr, ℕ, ◌+◌, ◌++◌, List, [], ◌∷◌, Option, Some, None, Ok, Err, refl, sym, ap, subst, ◌∙◌, arith}
+use Rattle.std.proofs.Common.{◌≡◌, ◌⊎◌, ◌<◌, inl, inr, ℕ, ◌+◌, List, [], Option, Some, None, Ok, Err, refl, sym, ap, subst, ◌∙◌, arith}
 use Rattle.std.specs.FinMap as fin
-use Rattle.std.specs.Prelude.{Result}
 use Rattle.obj_model.specs.declared.change.Pool.{Pool}
 use Rattle.obj_model.specs.declared.change.Pool.TheVariants.{Cache, Base}
 use Rattle.obj_model.specs.declared.req.Req.{Req}
@@ -10,16 +9,15 @@ use Rattle.obj_ops.specs.Stores.{Store, replay, state_of}
 use Rattle.store_face.specs.Calls.{Among, Both}
 use Rattle.store_face.specs.Tables.{Table}
 use Rattle.store_face.specs.Views.{CrashMaps, StoreView, no_map}
-use Rattle.store_face.specs.declared.fault.StoreFault.{StoreFault}
 use Rattle.store_face.specs.declared.fault.StoreFault.TheVariants.{Disk, BadImage, NoSpace, Worn, NoMemory}
 use Rattle.tier_outside.specs.Moments.{Each, Now, grown}
-use Rattle.tier_protocol.specs.Tiers.{Name, Phase, TierRec}
+use Rattle.tier_protocol.specs.Tiers.{Name, TierRec}
 use Rattle.tier_protocol.specs.Sound.{Shows}
 use Rattle.tier_protocol.specs.Moves.{counted_raised, epoch_found}
 use Rattle.tier_protocol.proofs.Memory.{memory_fenced, memory_raised}
 use Rattle.tier_protocol.proofs.Requests.{fresh_seq}
 use Rattle.tier_protocol.proofs.Steps.{counting}
-use Rattle.tier_join.specs.Group.{Doubt, Memory, TwoMaps, View, ActIsNext, AreLeft, BeganAt, BothTell, EpochIsNext, HasRecordAt, HasStateAt, IsRemembered, IsSoundMemory, ShowsIn, Spells, SpellsAny, Within, map_in, store_in, store_now, tier_of, with_act, with_epoch, with_store}
+use Rattle.tier_join.specs.Group.{Doubt, Memory, TwoMaps, View, ActIsNext, AreLeft, BeganAt, EpochIsNext, HasRecordAt, HasStateAt, IsRemembered, IsSoundMemory, ShowsIn, Spells, SpellsAny, map_in, store_in, store_now, tier_of, with_act, with_epoch, with_store}
 use Rattle.pool_keys.specs.Keys.{epoch_key, record_key, state_key}
 use Rattle.pool_keys.specs.Left.{AreTold, IsLeftSinceBy}
 use Rattle.pool_keys.specs.Values.{IsRecOf, IsStateOf}
@@ -30,7 +28,7 @@ use Rattle.tier_join.proofs.Commits.{told_in}
 use Rattle.pool_keys.proofs.Bases.{state_one}
 use Rattle.pool_keys.proofs.Caches.{record_one}
 use Rattle.pool_keys.proofs.Epochs.{epoch_one}
-use Rattle.tier_join.proofs.Left.{among_since, now_since, rests_left, rests_since, tells_on}
+use Rattle.tier_join.proofs.Left.{among_since, now_since, rests_since, tells_on}
 use Rattle.tier_join.proofs.Rests.{within_stands}
 
 -- ---- the maps of a store that was opened

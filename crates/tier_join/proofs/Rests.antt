@@ -1,13 +1,12 @@
 -- Steps that change memory alone.
-use Rattle.std.proofs.Common.{◌≡◌, ◌⊎◌, ◌<◌, inl, inr, ℕ, List, Option, Some, None, refl, sym, ap, subst, ◌∙◌}
-use Rattle.obj_model.specs.declared.change.Pool.{Pool}
+use Rattle.std.proofs.Common.{◌≡◌, ◌⊎◌, ◌<◌, inl, inr, ℕ, Option, Some, None, refl, sym, subst, ◌∙◌}
 use Rattle.obj_model.specs.declared.change.Pool.TheVariants.{Cache, Base}
 use Rattle.obj_ops.specs.Stores.{Store, replay}
-use Rattle.tier_protocol.specs.Tiers.{Net, Phase}
+use Rattle.tier_protocol.specs.Tiers.{Phase}
 use Rattle.tier_protocol.proofs.Requests.{replay_more}
-use Rattle.tier_join.specs.Group.{Doubt, Memory, TwoMaps, View, ActIsNext, AreLeft, BeganAt, BothTell, EpochIsNext, IsRemembered, Spells, SpellsAny, Within, store_now, with_act, with_epoch}
+use Rattle.tier_join.specs.Group.{Doubt, Memory, TwoMaps, View, ActIsNext, AreLeft, BothTell, EpochIsNext, Spells, SpellsAny, Within, store_now, with_act, with_epoch}
 use Rattle.pool_keys.specs.Left.{AreTold, IsLeftSinceBy}
-use Rattle.tier_join.specs.Promises.{AreLeftSince, Promises, StandsFor, as_it_is, with_req}
+use Rattle.tier_join.specs.Promises.{AreLeftSince, Promises, StandsFor, as_it_is}
 use Rattle.tier_join.specs.Steps.{OwesMemory, OwesWorlds, Rests, elsewhere, with_doubt}
 use Rattle.tier_join.proofs.Commits.{stands, surely}
 use Rattle.tier_join.proofs.Left.{rests_left, rests_since}

@@ -1,26 +1,20 @@
 -- The beginning, what is left, and what callers are told.
-use Rattle.std.proofs.Common.{◌≡◌, ◌⊎◌, inl, inr, true, ℕ, List, [], ◌∷◌, ◌++◌, Option, Some, None, refl, sym, ap, subst, ◌∙◌, arith}
-use Rattle.std.specs.FinMap as fin
-use Rattle.obj_model.specs.Names.{name_cmp}
+use Rattle.std.proofs.Common.{◌≡◌, inl, inr, ℕ, List, [], ◌∷◌, ◌++◌, Option, Some, None, refl, sym, ap, subst, ◌∙◌}
 use Rattle.obj_model.specs.declared.change.Pool.TheVariants.{Cache, Base}
 use Rattle.obj_model.specs.declared.req.Req.{Req}
-use Rattle.obj_model.specs.declared.state.NameState.{NameState}
 use Rattle.obj_ops.specs.declared.request.Acted.TheVariants.{Fresh}
 use Rattle.obj_ops.specs.Acts.{act}
 use Rattle.obj_ops.specs.Stores.{Store, state_of, store_after}
-use Rattle.store_face.specs.Tables.{Table}
 use Rattle.store_face.specs.Views.{StoreView}
-use Rattle.tier_types.specs.Flights.{HasOpid}
-use Rattle.tier_protocol.specs.Tiers.{BaseMsg, Flight, IsIn, Name, Net, Phase}
 use Rattle.tier_protocol.specs.Sound.{AreFresh, is_dirty}
 use Rattle.tier_protocol.proofs.Delivers.{acts_on_plain}
-use Rattle.tier_protocol.proofs.Memory.{free_as}
+use Rattle.tier_protocol.proofs.MemoryMoves.{starting}
 use Rattle.tier_protocol.proofs.Steps.{found_sound, promoting, shown}
 use Rattle.tier_protocol.proofs.Truth.{reads_true, writes_true}
 use Rattle.tier_join.specs.Ends.{ActsArePlain, BaresArePlain, EpochsAreLevel, GroupsBegin, GroupsBeginAnew, HistoriesAreLegal, IsSettled, LeftStands, PromotionsArePlain, ReadsArePlain, RecordsArePlain, WritesArePlain, found_view}
-use Rattle.tier_join.specs.Group.{Doubt, Memory, TwoMaps, View, AreLeft, BeganAt, IsGroup, IsSoundMemory, Spells, SpellsAny, store_now, tier_of, with_act}
+use Rattle.tier_join.specs.Group.{Doubt, Memory, TwoMaps, View, AreLeft, BeganAt, IsSoundMemory, Spells, SpellsAny, tier_of}
 use Rattle.pool_keys.specs.Left.{IsLeft}
-use Rattle.tier_join.specs.Promises.{StandsAt, StandsFor}
+use Rattle.tier_join.specs.Promises.{StandsAt}
 use Rattle.tier_join.proofs.BaseSteps.{state_is}
 use Rattle.tier_join.proofs.CacheSteps.{rec_is}
 use Rattle.tier_join.proofs.Commits.{some_maps, surely}
@@ -30,14 +24,7 @@ use Rattle.tier_join.proofs.Rests.{within_stands}
 
 -- memory in which nothing is under way is sound
 found_memory : (cache base : StoreView) (e f : ℕ) → IsSoundMemory (found_view cache base e f).memory
-found_memory cache base e f = record {
-  wire = record { begun = λ down. absurd (down refl); fenced = λ t. absurd (cc); from_one = omega arith; sent = λ m on. absurd on; replied = λ p on. absurd on };
-  apart = λ n m op has have. absurd (subst (λ x. HasOpid x op) (fin.get-empty {X = Flight} name_cmp n) has);
-  each = λ n. free_as n (fin.get fin.empty n) net net (fin.get-empty {X = Flight} name_cmp n);
-}
-  where
-    net : Net
-    net = (found_view cache base e f).memory.net
+found_memory cache base e f = starting e f
 
 found_began : (start : Store) (cache base : StoreView) (e f : ℕ) → ((z : TwoMaps) → IsLeft cache z.cache → IsLeft base z.base → StandsAt e f z start) → BeganAt start (found_view cache base e f)
 found_began start cache base e f each = record {

@@ -1,6 +1,6 @@
 -- What a step promises: what holds goes on, and whatever a stop leaves meanwhile stands for the plain
 -- store of before, or for that with the step's act.
-use Rattle.std.specs.Prelude.{◌≡◌, ◌≤◌, ◌⊎◌, ◌<◌, ℕ}
+use Rattle.std.specs.Prelude.{◌≤◌, ◌⊎◌, ◌<◌, ℕ}
 use Rattle.obj_model.specs.declared.req.Req.{Req}
 use Rattle.obj_ops.specs.Acts.{act}
 use Rattle.obj_ops.specs.Stores.{Store, state_of, store_after}
