@@ -74,8 +74,8 @@ record_at : (o : Option (List ℕ)) (r : TierRec) → IsRecOf o (Some r) → Has
 record_at None r h = absurd h
 record_at (Some bytes) r h = (r, h, refl)
 
--- A commit of a name's record. Where the disk fails it leaves the memory `rest`, in which the work on the
--- name may be gone.
+-- A commit of a name's record. Where the disk fails it leaves the memory `rest`, in which the work
+-- on the name may be gone.
 module _ (v : View) (k : Name) (o : Option (List ℕ)) (rec : Option TierRec) (rest : Memory) (result : Outcome)
     (none : v.doubt ≡ None) (named : name_fault k ≡ None) (spelled : IsRecOf o rec) (net : rest.net ≡ v.memory.net)
     (frees : (start : Store) (z : TwoMaps) → AreLeft v z → Spells start v.memory z → Spells start rest z)

@@ -1,5 +1,5 @@
--- A commit in one of two stores, at all pairs of maps at once: what it owes at one pair is all that a step
--- has to promise.
+-- A commit in one of two stores, at all pairs of maps at once: what it owes at one pair is all
+-- that a step has to promise.
 use Rattle.std.proofs.Common.{◌≡◌, ◌⊎◌, inl, inr, List, Option, Some, None, Ok, Err, refl, sym, ap, ap₂, subst, ◌∙◌}
 use Rattle.obj_model.specs.declared.change.Change.{Change}
 use Rattle.obj_model.specs.declared.change.Pool.{Pool}

@@ -41,8 +41,8 @@ made_left cs old new made t h =
 
 -- ---- a store that is opened anew, or rests
 
--- Since a store's opening began a stop leaves what it left before. What the store is otherwise does not
--- matter, so it is taken for one whose opening found no memory.
+-- Since a store's opening began a stop leaves what it left before. What the store is otherwise
+-- does not matter, so it is taken for one whose opening found no memory.
 pub among_since : (old new : StoreView) → Among old new → (t : Table) → IsLeftSince old new t → IsLeft old t
 among_since old new among t h =
     leaving.reopening_leaves old (record old { moments = new.moments; live = false }) (Err NoMemory) (among, record { live = refl; room = refl; used = refl; later = omega arith }) t h

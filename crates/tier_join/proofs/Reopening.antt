@@ -48,8 +48,8 @@ own_left Base v s P has z i = has z.base i.1
 
 -- ---- which of the two worlds it is
 
--- a name whose record, or state in the base, is of a later `seq` than the plain store's is no pair without
--- the act
+-- a name whose record, or state in the base, is of a later `seq` than the plain store's is no pair
+-- without the act
 record_behind : (o : Option (List ℕ)) (rec : Option TierRec) (seq : ℕ) (plain : NameState) → HasRecordAt seq o → IsRecOf o rec → Shows rec plain → seq ≡ plain.seq
 record_behind None rec seq plain has is shows = absurd has
 record_behind (Some bytes) None seq plain has is shows = absurd is

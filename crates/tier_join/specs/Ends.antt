@@ -37,12 +37,13 @@ found_view cache base cache_epoch base_epoch =
 abbrev pub GroupsBegin : Type 0
 GroupsBegin =
     (start : Store) (cache base : StoreView) (cache_epoch base_epoch : ℕ)
-    → ((z : TwoMaps) → IsLeft cache z.cache → IsLeft base z.base → StandsAt cache_epoch base_epoch z start)
+    → ((z : TwoMaps) → IsLeft cache z.cache → IsLeft base z.base
+    → StandsAt cache_epoch base_epoch z start)
     → IsGroup (found_view cache base cache_epoch base_epoch)
     × BeganAt start (found_view cache base cache_epoch base_epoch)
 
--- What a stop left can be attached anew: over stores that have these maps a group begins at the plain store
--- that they stand for.
+-- What a stop left can be attached anew: over stores that have these maps a group begins at the
+-- plain store that they stand for.
 abbrev pub GroupsBeginAnew : Type 0
 GroupsBeginAnew =
     (z : TwoMaps) (plain : Store) (h : StandsFor z plain) (cache base : StoreView)
@@ -57,7 +58,8 @@ LeftStands =
 
 -- each act of the history acts on the store that those before it leave
 abbrev pub HistoriesAreLegal : Type 0
-HistoriesAreLegal = (start : Store) (v : View) → BothTell v → BeganAt start v → AreFresh start v.memory.acts
+HistoriesAreLegal = (start : Store) (v : View) → BothTell v → BeganAt start v
+    → AreFresh start v.memory.acts
 
 -- ---- what callers are told, where no commit is in doubt
 
@@ -76,20 +78,23 @@ RecordsArePlain =
 -- where the cache has no record, the base has the plain store's state
 abbrev pub BaresArePlain : Type 0
 BaresArePlain =
-    (start : Store) (v : View) (k : Name) (s : NameState) → IsSettled start v → HasRec v k None → HasState v k s
+    (start : Store) (v : View) (k : Name) (s : NameState) → IsSettled start v → HasRec v k None
+    → HasState v k s
     → s ≡ state_of (store_now start v) k
 
 -- a promotion that has all chunks has the plain store's state
 abbrev pub PromotionsArePlain : Type 0
 PromotionsArePlain =
-    (start : Store) (v : View) (k : Name) (call op : ℕ) (gather : List Chunk) (ask : Ask) (s : NameState)
+    (start : Store) (v : View) (k : Name) (call op : ℕ) (gather : List Chunk) (ask : Ask)
+    (s : NameState)
     → IsSettled start v → MayPromote (seen v.memory k None) k call op gather ask s
     → s ≡ state_of (store_now start v) k
 
 -- what a proxied read is told is what the plain store tells
 abbrev pub ReadsArePlain : Type 0
 ReadsArePlain =
-    (start : Store) (v : View) (k : Name) (list : List ReadFlight) (r : ReadFlight) (l : Looked) → IsSettled start v
+    (start : Store) (v : View) (k : Name) (list : List ReadFlight) (r : ReadFlight) (l : Looked)
+    → IsSettled start v
     → fin.get v.memory.flights k ≡ Some (Flight.Reads list) → IsIn r list
     → IsIn (BaseReply.Looked v.memory.net.cache_epoch r.opid l) v.memory.net.replies
     → l ≡ look (state_of (store_now start v) k) r.vector
@@ -97,14 +102,16 @@ ReadsArePlain =
 -- what a proxied write is told is what the plain store answers its request from then on
 abbrev pub WritesArePlain : Type 0
 WritesArePlain =
-    (start : Store) (v : View) (k : Name) (driver : Option ℕ) (owner op : ℕ) (r : Req) (a : BaseActed)
+    (start : Store) (v : View) (k : Name) (driver : Option ℕ) (owner op : ℕ) (r : Req)
+    (a : BaseActed)
     → IsSettled start v → MayLand (seen v.memory k None) k driver owner op r a
     → act (state_of (store_now start v) k) r ≡ lasting a
 
 -- a Write that acts on the base acts on the plain store in the same way
 abbrev pub ActsArePlain : Type 0
 ActsArePlain =
-    (start : Store) (v : View) (op : ℕ) (r : Req) (b s : NameState) (answer : Reply) → IsSettled start v
+    (start : Store) (v : View) (op : ℕ) (r : Req) (b s : NameState) (answer : Reply)
+    → IsSettled start v
     → IsIn (BaseMsg.Write v.memory.net.base_epoch op r) v.memory.net.wire → HasState v r.name b
     → act b r ≡ Fresh s answer → act (state_of (store_now start v) r.name) r ≡ Fresh s answer
 

@@ -22,8 +22,8 @@ use Rattle.pool_keys.specs.Left.{IsLeft, Tells}
 use Rattle.pool_keys.specs.Maps.{SpellsBase, SpellsCache}
 pub use Rattle.tier_join.specs.declared.doubt.Doubt.{Doubt}
 
--- What is in memory: the requests that acted, the work under way, and the wire. What is kept of calls,
--- and whose act each is, would stand here too; nothing below speaks of it.
+-- What is in memory: the requests that acted, the work under way, and the wire. What is kept of
+-- calls, and whose act each is, would stand here too; nothing below speaks of it.
 pub record Memory : Type 0 where
   pub acts : List Req
   pub flights : Flights
@@ -93,8 +93,8 @@ tier_of start m recs base = record {
   net = m.net;
 }
 
--- The maps spell records and states which, with this memory, are a sound pair. Memory has the epochs of
--- both pools too, and they are those of the maps.
+-- The maps spell records and states which, with this memory, are a sound pair. Memory has the
+-- epochs of both pools too, and they are those of the maps.
 pub record Spells (start : Store) (m : Memory) (z : TwoMaps) : Type 0 where
   pub recs : Recs
   pub base : Store
@@ -107,7 +107,8 @@ pub record Spells (start : Store) (m : Memory) (z : TwoMaps) : Type 0 where
 -- a value spells a record of this `seq`
 abbrev pub HasRecordAt : ℕ → Option (List ℕ) → Type 0
 HasRecordAt seq None = ⊥
-HasRecordAt seq (Some bytes) = (r : TierRec) × SpellsTier bytes r.state r.dirty r.mtime × (r.state.seq ≡ seq)
+HasRecordAt seq (Some bytes) = (r : TierRec) × SpellsTier bytes r.state r.dirty r.mtime
+    × (r.state.seq ≡ seq)
 
 -- a value spells a state of this `seq`
 abbrev pub HasStateAt : ℕ → Option (List ℕ) → Type 0
@@ -119,8 +120,9 @@ abbrev pub ShowsIn : Pool → Name → (seq : ℕ) → Table → Type 0
 ShowsIn Cache name seq t = HasRecordAt seq (fin.get t (record_key name))
 ShowsIn Base name seq t = HasStateAt seq (fin.get t (state_key name))
 
--- Maps that have the commit in doubt, where memory has to follow: they show the act, and are a sound pair
--- with it; or a sound pair at the other epoch. To a plain commit memory is the same either way.
+-- Maps that have the commit in doubt, where memory has to follow: they show the act, and are a
+-- sound pair with it; or a sound pair at the other epoch. To a plain commit memory is the same
+-- either way.
 abbrev pub SpellsDoubt : Store → Memory → Doubt → TwoMaps → Type 0
 SpellsDoubt start m (Doubt.Plain pool name) z = ⊥
 SpellsDoubt start m (Doubt.Act pool q seq) z =
@@ -136,10 +138,12 @@ abbrev pub ActIsNext : (plain : Store) → Option Doubt → Type 0
 ActIsNext plain None = Unit {0}
 ActIsNext plain (Some (Doubt.Plain pool name)) = Unit {0}
 ActIsNext plain (Some (Doubt.Act pool q seq)) =
-    (s : NameState) × (answer : Reply) × (act (state_of plain q.name) q ≡ Fresh s answer) × (s.seq ≡ seq)
+    (s : NameState) × (answer : Reply) × (act (state_of plain q.name) q ≡ Fresh s answer)
+    × (s.seq ≡ seq)
 ActIsNext plain (Some (Doubt.Epoch pool e)) = Unit {0}
 
--- an epoch in doubt is a later one; that of the cache is above both, and the cache is down meanwhile
+-- an epoch in doubt is a later one; that of the cache is above both, and the cache is down
+-- meanwhile
 abbrev pub EpochIsNext : Net → Option Doubt → Type 0
 EpochIsNext net None = Unit {0}
 EpochIsNext net (Some (Doubt.Plain pool name)) = Unit {0}
@@ -158,8 +162,8 @@ store_now start v = replay start v.memory.acts
 abbrev pub Within : Store → View → TwoMaps → Type 0
 Within start v z = Spells start v.memory z ⊎ SpellsAny start v.memory v.doubt z
 
--- The group began at this store: whatever a stop now leaves of the one store, with whatever it leaves of
--- the other, is within.
+-- The group began at this store: whatever a stop now leaves of the one store, with whatever it
+-- leaves of the other, is within.
 pub record BeganAt (start : Store) (v : View) : Type 0 where
   pub holds : (z : TwoMaps) → AreLeft v z → Within start v z
   pub acts : ActIsNext (store_now start v) v.doubt
@@ -174,8 +178,8 @@ pub record IsRemembered (v : View) : Type 0 where
   pub sound : IsSoundMemory v.memory
   pub epochs : EpochIsNext v.memory.net v.doubt
 
--- The group's invariant: its memory is sound, and where both stores tell their maps there is a store at
--- which it began.
+-- The group's invariant: its memory is sound, and where both stores tell their maps there is a
+-- store at which it began.
 pub record IsGroup (v : View) : Type 0 where
   pub memory : IsRemembered v
   pub began : BothTell v → (start : Store) × BeganAt start v

@@ -35,27 +35,32 @@ GroupsGoOn = (other : Store → Store) (v w : View) → Promises other v w → I
 -- a commit that has at each pair of maps what it owes
 abbrev pub CommitsPromise : Type 0
 CommitsPromise =
-    (pool : Pool) (cs : List Change) (done : Memory) (left : StoreFault → Memory) (d : Doubt) (result : Outcome)
+    (pool : Pool) (cs : List Change) (done : Memory) (left : StoreFault → Memory) (d : Doubt)
+    (result : Outcome)
     (v w : View) (other : Store → Store)
     → ((start : Store) → replay start done.acts ≡ other (store_now start v))
-    → Owes pool cs done left d result v → Commits pool cs done left d result v w → Promises other v w
+    → Owes pool cs done left d result v → Commits pool cs done left d result v w
+    → Promises other v w
 
 -- the same of a change of memory that rests on what was read, and of one that may come in a doubt
 abbrev pub MemoryPromises : Type 0
 MemoryPromises = (v w : View) → OwesMemory v w.memory → Rests v w → Promises as_it_is v w
 
 abbrev pub WorldsPromise : Type 0
-WorldsPromise = (v w : View) → OwesWorlds v.memory w.memory → Rests v w → Promises (with_doubt v.doubt) v w
+WorldsPromise = (v w : View) → OwesWorlds v.memory w.memory → Rests v w
+    → Promises (with_doubt v.doubt) v w
 
 -- memory may change before a step and behind it
 abbrev pub StepsJoin : Type 0
 StepsJoin =
-    ((other again : Store → Store) (v w u : View) → Promises other v w → Rests w u → Promises again w u
+    ((other again : Store → Store) (v w u : View) → Promises other v w → Rests w u
+    → Promises again w u
     → Promises other v u)
     × ((other again : Store → Store) (v w u : View) → w.memory.acts ≡ v.memory.acts → Rests v w
     → Promises again v w → Promises other w u → Promises other v u)
 
--- A live store has one map, so what was read of it is in each map that a stop leaves: a record, or a state.
+-- A live store has one map, so what was read of it is in each map that a stop leaves: a record, or
+-- a state.
 abbrev pub ReadingsHold : Type 0
 ReadingsHold =
     ((v : View) (k : Name) (rec : Option TierRec) → Sound v.cache → v.cache.live ≡ true
@@ -68,18 +73,22 @@ ReadingsHold =
 -- a request acts on a record
 abbrev pub ActingPromises : Type 0
 ActingPromises =
-    (v w : View) (rec : Option TierRec) (r : TierRec) (q : Req) (s : NameState) (answer : Reply) (moment : ℕ)
+    (v w : View) (rec : Option TierRec) (r : TierRec) (q : Req) (s : NameState) (answer : Reply)
+    (moment : ℕ)
     (o : Option (List ℕ)) (result : Outcome)
     → v.doubt ≡ None → HasRec v q.name rec → MayActHere (seen v.memory q.name rec) r q s answer
-    → name_fault q.name ≡ None → IsRecOf o (Some (record { state = s; dirty = true; mtime = moment }))
-    → Commits Cache (sets (record_key q.name) o) (after (acted_here q s moment) v.memory) (unless_disk v.memory v.memory)
+    → name_fault q.name ≡ None
+    → IsRecOf o (Some (record { state = s; dirty = true; mtime = moment }))
+    → Commits Cache (sets (record_key q.name) o) (after (acted_here q s moment) v.memory)
+    (unless_disk v.memory v.memory)
     (Doubt.Act Cache q s.seq) result v w
     → Promises (with_req q) v w
 
 -- a promotion ends with a clean record
 abbrev pub PromotingPromises : Type 0
 PromotingPromises =
-    (v w : View) (k : Name) (call op : ℕ) (gather : List Chunk) (ask : Ask) (s : NameState) (moment : ℕ)
+    (v w : View) (k : Name) (call op : ℕ) (gather : List Chunk) (ask : Ask) (s : NameState)
+    (moment : ℕ)
     (o : Option (List ℕ)) (result : Outcome)
     → v.doubt ≡ None → MayPromote (seen v.memory k None) k call op gather ask s
     → name_fault k ≡ None → IsRecOf o (Some (record { state = s; dirty = false; mtime = moment }))
@@ -90,21 +99,27 @@ PromotingPromises =
 -- a promotion ends, and its request acts at once, in one commit
 abbrev pub PromotingActsPromises : Type 0
 PromotingActsPromises =
-    (v w : View) (q : Req) (call op : ℕ) (gather : List Chunk) (ask : Ask) (b s : NameState) (answer : Reply)
+    (v w : View) (q : Req) (call op : ℕ) (gather : List Chunk) (ask : Ask) (b s : NameState)
+    (answer : Reply)
     (moment : ℕ) (o : Option (List ℕ)) (result : Outcome)
-    → v.doubt ≡ None → MayPromote (seen v.memory q.name None) q.name call op gather ask b → act b q ≡ Fresh s answer
-    → name_fault q.name ≡ None → IsRecOf o (Some (record { state = s; dirty = true; mtime = moment }))
+    → v.doubt ≡ None → MayPromote (seen v.memory q.name None) q.name call op gather ask b
+    → act b q ≡ Fresh s answer
+    → name_fault q.name ≡ None
+    → IsRecOf o (Some (record { state = s; dirty = true; mtime = moment }))
     → Commits Cache (sets (record_key q.name) o)
     (after (λ t. acted_here q s moment (promoted q.name b moment t)) v.memory)
-    (unless_disk (after (with_flight q.name None) v.memory) v.memory) (Doubt.Act Cache q s.seq) result v w
+    (unless_disk (after (with_flight q.name None) v.memory) v.memory)
+    (Doubt.Act Cache q s.seq) result v w
     → Promises (with_req q) v w
 
 -- a flush ends with a clean record; or, where the cache is drained, with none
 abbrev pub CleaningPromises : Type 0
 CleaningPromises =
-    (v w : View) (rec : Option TierRec) (k : Name) (call : Option ℕ) (op seq m : ℕ) (blocking drain : Bool)
+    (v w : View) (rec : Option TierRec) (k : Name) (call : Option ℕ) (op seq m : ℕ)
+    (blocking drain : Bool)
     (r : TierRec) (o : Option (List ℕ)) (result : Outcome)
-    → v.doubt ≡ None → HasRec v k rec → MayClean (seen v.memory k rec) k call op seq m blocking drain r
+    → v.doubt ≡ None → HasRec v k rec
+    → MayClean (seen v.memory k rec) k call op seq m blocking drain r
     → name_fault k ≡ None → IsRecOf o (Some (record r { dirty = false }))
     → Commits Cache (sets (record_key k) o) (after (cleaned k r) v.memory)
     (unless_disk (after (with_flight k None) v.memory) v.memory) (Doubt.Plain Cache k) result v w
@@ -112,9 +127,11 @@ CleaningPromises =
 
 abbrev pub DrainingPromises : Type 0
 DrainingPromises =
-    (v w : View) (rec : Option TierRec) (k : Name) (call : Option ℕ) (op seq m : ℕ) (blocking drain : Bool)
+    (v w : View) (rec : Option TierRec) (k : Name) (call : Option ℕ) (op seq m : ℕ)
+    (blocking drain : Bool)
     (r : TierRec) (result : Outcome)
-    → v.doubt ≡ None → HasRec v k rec → MayClean (seen v.memory k rec) k call op seq m blocking drain r
+    → v.doubt ≡ None → HasRec v k rec
+    → MayClean (seen v.memory k rec) k call op seq m blocking drain r
     → name_fault k ≡ None
     → Commits Cache (sets (record_key k) None) (after (drained k) v.memory)
     (unless_disk (after (with_flight k None) v.memory) v.memory) (Doubt.Plain Cache k) result v w
@@ -125,7 +142,8 @@ abbrev pub EvictingPromises : Type 0
 EvictingPromises =
     (v w : View) (rec : Option TierRec) (k : Name) (result : Outcome)
     → v.doubt ≡ None → HasRec v k rec → MayEvict (seen v.memory k rec) k → name_fault k ≡ None
-    → Commits Cache (sets (record_key k) None) (after (evicted k) v.memory) (unless_disk v.memory v.memory)
+    → Commits Cache (sets (record_key k) None) (after (evicted k) v.memory)
+    (unless_disk v.memory v.memory)
     (Doubt.Plain Cache k) result v w
     → Promises as_it_is v w
 
@@ -135,7 +153,8 @@ RaisingPromises =
     (v w : View) (e : ℕ) (bytes : List ℕ) (result : Outcome)
     → v.doubt ≡ None → v.memory.net.phase ≡ Phase.Down → v.memory.net.cache_epoch < e
     → v.memory.net.base_epoch < e → SpellsEpoch bytes e
-    → Commits Cache (sets epoch_key (Some bytes)) (after (raised_to e) v.memory) (unless_disk v.memory v.memory)
+    → Commits Cache (sets epoch_key (Some bytes)) (after (raised_to e) v.memory)
+    (unless_disk v.memory v.memory)
     (Doubt.Epoch Cache e) result v w
     → Promises as_it_is v w
 
@@ -146,18 +165,22 @@ abbrev pub AnsweringPromises : Type 0
 AnsweringPromises =
     (v w : View) (msg : BaseMsg) (s : NameState) (out : Served)
     → v.doubt ≡ None → IsIn msg v.memory.net.wire → HasStateFor v (name_in msg) s
-    → served v.memory.net.base_epoch s msg ≡ out → out.put ≡ None → out.epoch ≡ v.memory.net.base_epoch
+    → served v.memory.net.base_epoch s msg ≡ out → out.put ≡ None
+    → out.epoch ≡ v.memory.net.base_epoch
     → Rests v w → w.memory ≡ after (with_served msg out) v.memory → Promises as_it_is v w
 
--- A message that puts a state: a Write that acts, or an Install of more requests. Where there is no space
--- for the commit the base replies so.
+-- A message that puts a state: a Write that acts, or an Install of more requests. Where there is
+-- no space for the commit the base replies so.
 abbrev pub PuttingPromises : Type 0
 PuttingPromises =
-    (v w : View) (msg : BaseMsg) (k : Name) (s t : NameState) (out : Served) (bytes : List ℕ) (result : Outcome)
+    (v w : View) (msg : BaseMsg) (k : Name) (s t : NameState) (out : Served) (bytes : List ℕ)
+    (result : Outcome)
     → v.doubt ≡ None → IsIn msg v.memory.net.wire → name_in msg ≡ Some k → HasState v k s
-    → served v.memory.net.base_epoch s msg ≡ out → out.put ≡ Some t → out.epoch ≡ v.memory.net.base_epoch
+    → served v.memory.net.base_epoch s msg ≡ out → out.put ≡ Some t
+    → out.epoch ≡ v.memory.net.base_epoch
     → name_fault k ≡ None → SpellsState bytes t → IsOver result
-    → Commits Base (sets (state_key k) (Some bytes)) (after (with_served msg out) v.memory) (no_space msg v.memory)
+    → Commits Base (sets (state_key k) (Some bytes)) (after (with_served msg out) v.memory)
+    (no_space msg v.memory)
     (doubt_of msg t.seq) result v w
     → Promises (act_of msg) v w
 
@@ -178,7 +201,8 @@ FencingPromises =
 abbrev pub BeginningPromises : Type 0
 BeginningPromises =
     (v w : View) (k : Name) (f : Flight) (rec : Option TierRec)
-    → v.doubt ≡ None → HasRec v k rec → v.memory.net.phase ≡ Phase.Up → MayBegin (seen v.memory k rec) k f
+    → v.doubt ≡ None → HasRec v k rec → v.memory.net.phase ≡ Phase.Up
+    → MayBegin (seen v.memory k rec) k f
     → Rests v w → w.memory ≡ after (begun k f) v.memory → Promises as_it_is v w
 
 -- work sends its message, at first or again; or a Fence is sent
@@ -193,7 +217,8 @@ abbrev pub GatheringPromises : Type 0
 GatheringPromises =
     (v w : View) (k : Name) (call op : ℕ) (gather : List Chunk) (ask : Ask) (x : Chunk)
     → v.doubt ≡ None → MayGather (seen v.memory k None) k call op gather ask x
-    → Rests v w → w.memory ≡ after (gathered k call op gather ask x) v.memory → Promises as_it_is v w
+    → Rests v w → w.memory ≡ after (gathered k call op gather ask x) v.memory
+    → Promises as_it_is v w
 
 -- a proxied write lands
 abbrev pub LandingPromises : Type 0
@@ -210,7 +235,8 @@ LosingPromises =
     (v w : View) (flights : Flights) (wire : List BaseMsg) (replies : List BaseReply)
     → ((n : Name) → IsLeftOf (fin.get v.memory.flights n) (fin.get flights n))
     → AreIn wire v.memory.net.wire → AreIn replies v.memory.net.replies
-    → Rests v w → w.memory ≡ left_with flights wire replies v.memory → Promises (with_doubt v.doubt) v w
+    → Rests v w → w.memory ≡ left_with flights wire replies v.memory
+    → Promises (with_doubt v.doubt) v w
 
 -- either pool stops
 abbrev pub StoppingPromises : Type 0
@@ -229,9 +255,10 @@ GoingUpPromises =
 
 -- whatever a reopening answers, each moment since leaves what was left before
 abbrev pub ReopeningsAreAmong : Type 0
-ReopeningsAreAmong = (old new : StoreView) (result : Outcome) → Reopened old new result → Among old new
+ReopeningsAreAmong = (old new : StoreView) (result : Outcome) → Reopened old new result
+    → Among old new
 
--- The opening of either pool's store, that went well or not, with each kind of doubt, its own or the other
--- pool's, settled the one way or the other.
+-- The opening of either pool's store, that went well or not, with each kind of doubt, its own or
+-- the other pool's, settled the one way or the other.
 abbrev pub OpeningPromises : Type 0
 OpeningPromises = (pool : Pool) (v w : View) → Opens pool v w → Promises (with_doubt v.doubt) v w

@@ -1,5 +1,5 @@
--- What a step promises: what holds goes on, and whatever a stop leaves meanwhile stands for the plain
--- store of before, or for that with the step's act.
+-- What a step promises: what holds goes on, and whatever a stop leaves meanwhile stands for the
+-- plain store of before, or for that with the step's act.
 use Rattle.std.specs.Prelude.{◌≤◌, ◌⊎◌, ◌<◌, ℕ}
 use Rattle.obj_model.specs.declared.req.Req.{Req}
 use Rattle.obj_ops.specs.Acts.{act}
@@ -26,7 +26,8 @@ StandsFor z plain = (cache_epoch : ℕ) × (base_epoch : ℕ) × StandsAt cache_
 
 -- a stop at some moment from old to new may leave these maps
 abbrev pub AreLeftSince : (old new : View) → TwoMaps → Type 0
-AreLeftSince old new z = IsLeftSince old.cache new.cache z.cache × IsLeftSince old.base new.base z.base
+AreLeftSince old new z = IsLeftSince old.cache new.cache z.cache
+    × IsLeftSince old.base new.base z.base
 
 -- whatever a stop leaves from old to new stands for the one store, or for the other
 abbrev pub StopsLeave : (plain other : Store) → (old new : View) → Type 0

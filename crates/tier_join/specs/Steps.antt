@@ -1,5 +1,5 @@
--- What a step is: a commit in one pool, with the memory that it leaves; a change of memory alone; the
--- opening of a store.
+-- What a step is: a commit in one pool, with the memory that it leaves; a change of memory alone;
+-- the opening of a store.
 use Rattle.std.specs.Prelude.{◌≡◌, ◌⊎◌, ◌<◌, ℕ, ◌+◌, List, [], ◌∷◌, Option, Some, None, Result, Ok, Err}
 use Rattle.std.specs.FinMap as fin
 use Rattle.obj_model.specs.declared.change.Change.{Change}
@@ -66,30 +66,36 @@ doubt_after (Err (NoSpace used need limit)) d = None
 doubt_after (Err (Worn limit)) d = None
 doubt_after (Err NoMemory) d = None
 
--- what a commit leaves: the one memory where it is made, the other where it is not, and the doubt where
--- the disk failed; all else is as it was
-abbrev pub behind : Pool → (done : Memory) → (left : StoreFault → Memory) → Doubt → Outcome → (old new : View) → View
+-- what a commit leaves: the one memory where it is made, the other where it is not, and the doubt
+-- where the disk failed; all else is as it was
+abbrev pub behind : Pool → (done : Memory) → (left : StoreFault → Memory) → Doubt → Outcome
+    → (old new : View) → View
 behind pool done left d result old new = record (with_store pool (store_in pool new) old) {
   doubt = doubt_after result d;
   memory = memory_after result done left;
 }
 
 -- one commit in a pool
-pub record Commits (pool : Pool) (cs : List Change) (done : Memory) (left : StoreFault → Memory) (d : Doubt) (result : Outcome) (old new : View) : Type 0 where
+pub record Commits (pool : Pool) (cs : List Change) (done : Memory) (left : StoreFault → Memory)
+    (d : Doubt) (result : Outcome) (old new : View) : Type 0 where
   pub committed : Committed cs (store_in pool old) (store_in pool new) result
   pub same : new ≡ behind pool done left d result old new
 
--- What such a step owes, at each pair of maps that a stop leaves before it: sound pairs where the commit is
--- made, where it is not, and where it is in doubt. Then it promises all that a step promises.
-pub record Owes (pool : Pool) (cs : List Change) (done : Memory) (left : StoreFault → Memory) (d : Doubt) (result : Outcome) (old : View) : Type 0 where
+-- What such a step owes, at each pair of maps that a stop leaves before it: sound pairs where the
+-- commit is made, where it is not, and where it is in doubt. Then it promises all that a step
+-- promises.
+pub record Owes (pool : Pool) (cs : List Change) (done : Memory) (left : StoreFault → Memory)
+    (d : Doubt) (result : Outcome) (old : View) : Type 0 where
   pub settled : old.doubt ≡ None
   pub makes : (start : Store) (z : TwoMaps) → AreLeft old z → Spells start old.memory z
       → Spells start done (changed_in pool cs z)
-  pub stays : (start : Store) (z : TwoMaps) (fault : StoreFault) → result ≡ Err fault → AreLeft old z
+  pub stays : (start : Store) (z : TwoMaps) (fault : StoreFault) → result ≡ Err fault
+      → AreLeft old z
       → Spells start old.memory z → Spells start (left fault) z
   -- without the commit memory is as the disk's failure leaves it, and the maps may have it
   pub torn : (start : Store) (z : TwoMaps) → AreLeft old z → Spells start old.memory z
-      → Spells start (left Disk) (changed_in pool cs z) ⊎ SpellsDoubt start (left Disk) d (changed_in pool cs z)
+      → Spells start (left Disk) (changed_in pool cs z)
+      ⊎ SpellsDoubt start (left Disk) d (changed_in pool cs z)
   pub acts : (start : Store) (z : TwoMaps) → AreLeft old z → Spells start old.memory z
       → ActIsNext (replay start (left Disk).acts) (Some d)
   pub epochs : EpochIsNext (left Disk).net (Some d)
@@ -109,7 +115,8 @@ pub record Rests (old new : View) : Type 0 where
 -- What a change of memory owes that rests on what was read: a sound pair at each pair of maps.
 pub record OwesMemory (old : View) (m : Memory) : Type 0 where
   pub settled : old.doubt ≡ None
-  pub moves : (start : Store) (z : TwoMaps) → AreLeft old z → Spells start old.memory z → Spells start m z
+  pub moves : (start : Store) (z : TwoMaps) → AreLeft old z → Spells start old.memory z
+      → Spells start m z
   pub memory : IsSoundMemory old.memory → IsSoundMemory m
 
 -- the memory at other epochs and with other acts
@@ -119,8 +126,9 @@ elsewhere here m cache_epoch base_epoch = record m {
   net = record m.net { cache_epoch = cache_epoch; base_epoch = base_epoch };
 }
 
--- What a change of memory owes that may come in a doubt too: a sound pair from each, whatever its records,
--- states and acts, at whatever epoch of the base, and, while the cache is down, at whatever of the cache.
+-- What a change of memory owes that may come in a doubt too: a sound pair from each, whatever its
+-- records, states and acts, at whatever epoch of the base, and, while the cache is down, at
+-- whatever of the cache.
 pub record OwesWorlds (old new : Memory) : Type 0 where
   pub acts : new.acts ≡ old.acts
   pub cache : new.net.cache_epoch ≡ old.net.cache_epoch
@@ -149,10 +157,11 @@ IsAtEpoch e t = IsEpochOf (fin.get t epoch_key) e
 
 -- a pool's store is another, no commit is in doubt, and memory is this
 abbrev pub settled : Pool → (old new : View) → Memory → View
-settled pool old new m = record (with_store pool (store_in pool new) old) { doubt = None; memory = m }
+settled pool old new m =
+    record (with_store pool (store_in pool new) old) { doubt = None; memory = m }
 
--- A doubt is settled by reading its key again. An act that is there enters the history; an epoch that is
--- there is the pool's, and that of the cache counts as the raise that was needed.
+-- A doubt is settled by reading its key again. An act that is there enters the history; an epoch
+-- that is there is the pool's, and that of the cache counts as the raise that was needed.
 abbrev pub Settles : Doubt → (old new : View) → Type 0
 Settles (Doubt.Plain pool name) old new =
     ReadAgain pool name new × (new ≡ settled pool old new old.memory)
@@ -173,8 +182,9 @@ pool_of (Doubt.Plain pool name) = pool
 pool_of (Doubt.Act pool q seq) = pool
 pool_of (Doubt.Epoch pool e) = pool
 
--- A store is opened anew: it has one of the maps that a stop would have left, and a doubt about it is
--- settled; or not, where the opening or the reading failed. A doubt about the other store stays.
+-- A store is opened anew: it has one of the maps that a stop would have left, and a doubt about it
+-- is settled; or not, where the opening or the reading failed. A doubt about the other store
+-- stays.
 pub record Opens (pool : Pool) (old new : View) : Type 0 where
   pub among : Among (store_in pool old) (store_in pool new)
   pub settles : (new ≡ with_store pool (store_in pool new) old)

@@ -1,8 +1,9 @@
 //! Messages that the base is given.
 ghost use Rattle.tier_join.specs.Laws.{AnsweringPromises, FencingPromises, PuttingPromises};
 
-/// A message that changes nothing in the base is answered: a read, a chunk, a request that acted before, an Install that is
-/// behind, a Fence of the base's own epoch, any message of another epoch.
+/// A message that changes nothing in the base is answered: a read, a chunk, a request that acted
+/// before, an Install that is behind, a Fence of the base's own epoch, any message of another
+/// epoch.
 pub fn answering_promises()
     ensures { AnsweringPromises }
 {}

@@ -1,12 +1,14 @@
 //! The commits of the cache.
 ghost use Rattle.tier_join.specs.Laws.{ActingPromises, CleaningPromises, DrainingPromises, EvictingPromises, PromotingActsPromises, PromotingPromises, RaisingPromises};
 
-/// A request acts on a record. A stop meanwhile leaves the plain store of before, or the one with the request.
+/// A request acts on a record. A stop meanwhile leaves the plain store of before, or the one with
+/// the request.
 pub fn acting_promises()
     ensures { ActingPromises }
 {}
 
-/// A promotion ends with a clean record. Where the disk fails its work is gone, whether the record is there or not.
+/// A promotion ends with a clean record. Where the disk fails its work is gone, whether the record
+/// is there or not.
 pub fn promoting_promises()
     ensures { PromotingPromises }
 {}

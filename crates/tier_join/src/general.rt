@@ -1,13 +1,14 @@
 //! What holds of all steps.
 ghost use Rattle.tier_join.specs.Laws.{CommitsPromise, GroupsGoOn, MemoryPromises, ReadingsHold, StepsJoin, WorldsPromise};
 
-/// What a step promises is enough for the invariant to go on, over stores that tell their maps and over stores that tell nothing.
+/// What a step promises is enough for the invariant to go on, over stores that tell their maps and
+/// over stores that tell nothing.
 pub fn groups_go_on()
     ensures { GroupsGoOn }
 {}
 
-/// A commit in either pool that has what it owes at each pair of maps promises all that a step promises, whether it was
-/// made, was not, or is in doubt.
+/// A commit in either pool that has what it owes at each pair of maps promises all that a step
+/// promises, whether it was made, was not, or is in doubt.
 pub fn commits_promise()
     ensures { CommitsPromise }
 {}

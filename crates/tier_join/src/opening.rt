@@ -6,8 +6,8 @@ pub fn reopenings_are_among()
     ensures { ReopeningsAreAmong }
 {}
 
-/// A store is opened anew, and its doubt is settled by what its map shows; or the opening failed, or the doubt is the
-/// other store's.
+/// A store is opened anew, and its doubt is settled by what its map shows; or the opening failed,
+/// or the doubt is the other store's.
 pub fn opening_promises()
     ensures { OpeningPromises }
 {}
