@@ -9,3 +9,4 @@ pub mod MemorySteps
 pub mod Reopening
 pub mod Telling
 pub mod Groups
+pub mod Seeing

@@ -3,3 +3,4 @@ pub mod Promises
 pub mod Steps
 pub mod Laws
 pub mod Ends
+pub mod Seen

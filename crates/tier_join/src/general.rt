@@ -1,4 +1,5 @@
 //! What holds of all steps.
+ghost use Rattle.tier_join.specs.Seen.{GuardsAreSeen};
 ghost use Rattle.tier_join.specs.Laws.{CommitsPromise, GroupsGoOn, MemoryPromises, ReadingsHold, StepsJoin, WorldsPromise};
 
 /// What a step promises is enough for the invariant to go on, over stores that tell their maps and
@@ -31,4 +32,9 @@ pub fn steps_join()
 /// What was read of a live store is in each map that a stop leaves of it.
 pub fn readings_hold()
     ensures { ReadingsHold }
+{}
+
+/// A step sees enough of the pair: what it has in memory, and the one record that it read.
+pub fn guards_are_seen()
+    ensures { GuardsAreSeen }
 {}

@@ -27,7 +27,8 @@ pub use ends::{
     writes_are_plain,
 };
 pub use general::{
-    commits_promise, groups_go_on, memory_promises, readings_hold, steps_join, worlds_promise,
+    commits_promise, groups_go_on, guards_are_seen, memory_promises, readings_hold, steps_join,
+    worlds_promise,
 };
 pub use memory::{
     beginning_promises, gathering_promises, going_up_promises, landing_promises, losing_promises,
