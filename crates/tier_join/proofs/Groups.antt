@@ -1,6 +1,8 @@
 -- The general laws, as the crate's calls promise them.
+use Rattle.std.proofs.Common.{◌≡◌, inl, inr, List, [], ◌∷◌, sym, subst}
 use Rattle.std.specs.FinMap as fin
-use Rattle.tier_join.specs.Laws.{CommitsPromise, GroupsGoOn, ReadingsHold, StepsJoin}
+use Rattle.tier_join.specs.Group.{BeganAt, IsGroup}
+use Rattle.tier_join.specs.Laws.{CommitsPromise, GroupsGoOn, ReadingsHold, RunsGoOn, StepsJoin}
 use Rattle.pool_keys.specs.Keys.{record_key, state_key}
 use Rattle.pool_keys.specs.Values.{IsRecOf, IsStateOf}
 use Rattle.tier_join.proofs.Commits.{commit_promises}
@@ -12,6 +14,20 @@ groups_go_on other v w p g = record {
   memory = p.memory g.memory;
   began = λ told. let b = g.began (p.told told) in (b.0, p.began b.0 (p.told told) b.1);
 }
+
+pub runs_go_on : RunsGoOn
+runs_go_on v [] steps w on = absurd on
+runs_go_on v (u ∷ us) steps w (inl same) =
+    let p = steps.0.1 in (
+      λ g. subst IsGroup (sym same) (groups_go_on steps.0.0 v u p g),
+      λ start told b. subst (BeganAt start) (sym same) (p.began start told b),
+    )
+runs_go_on v (u ∷ us) steps w (inr later) =
+    let p = steps.0.1 in
+    let rest = runs_go_on u us steps.1 w later in (
+      λ g. rest.0 (groups_go_on steps.0.0 v u p g),
+      λ start told b. rest.1 start (p.tell told) (p.began start told b),
+    )
 
 pub commits_promise : CommitsPromise
 commits_promise pool cs done left d result v w other acts owes step = commit_promises pool cs done left d result v w owes step other acts

@@ -11,7 +11,7 @@ use Rattle.tier_protocol.proofs.Delivers.{acts_on_plain}
 use Rattle.tier_protocol.proofs.MemoryMoves.{starting}
 use Rattle.tier_protocol.proofs.Steps.{found_sound, promoting, shown}
 use Rattle.tier_protocol.proofs.Truth.{reads_true, writes_true}
-use Rattle.tier_join.specs.Ends.{ActsArePlain, BaresArePlain, EpochsAreLevel, GroupsBegin, GroupsBeginAnew, HistoriesAreLegal, IsSettled, LeftStands, PromotionsArePlain, ReadsArePlain, RecordsArePlain, WritesArePlain, found_view}
+use Rattle.tier_join.specs.Ends.{ActsArePlain, BaresArePlain, EpochsAreLevel, EpochsAreMemorys, GroupsBegin, GroupsBeginAnew, HistoriesAreLegal, IsSettled, LeftStands, PromotionsArePlain, ReadsArePlain, RecordsArePlain, WritesArePlain, found_view}
 use Rattle.tier_join.specs.Group.{Doubt, Memory, TwoMaps, View, AreLeft, BeganAt, IsSoundMemory, Spells, SpellsAny, tier_of}
 use Rattle.pool_keys.specs.Left.{IsLeft}
 use Rattle.tier_join.specs.Promises.{StandsAt}
@@ -117,3 +117,6 @@ acts_are_plain start v op r b s answer is on has acts =
 
 pub epochs_are_level : EpochsAreLevel
 epochs_are_level start v is up = (here start v is).sound.epochs.level up
+
+pub epochs_are_memorys : EpochsAreMemorys
+epochs_are_memorys start v z is i = let h = surely start v is.settled is.began z i in (h.cached.is_epoch, h.based.is_epoch)

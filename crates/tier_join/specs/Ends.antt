@@ -18,7 +18,7 @@ use Rattle.tier_protocol.specs.Tiers.{Name, Ask, BaseActed, BaseMsg, BaseReply, 
 use Rattle.tier_join.specs.Group.{TwoMaps, View, AreLeft, BeganAt, BothTell, IsGroup, store_now}
 use Rattle.pool_keys.specs.Left.{IsLeft}
 use Rattle.tier_join.specs.Promises.{StandsAt, StandsFor}
-use Rattle.tier_join.specs.Steps.{Has, HasRec, HasState, seen, with_doubt}
+use Rattle.tier_join.specs.Steps.{Has, HasRec, HasState, IsAtEpoch, seen, with_doubt}
 
 -- ---- the beginning
 
@@ -120,3 +120,9 @@ abbrev pub EpochsAreLevel : Type 0
 EpochsAreLevel =
     (start : Store) (v : View) → IsSettled start v → v.memory.net.phase ≡ Phase.Up
     → v.memory.net.base_epoch ≡ v.memory.net.cache_epoch
+
+-- each map that a stop leaves has memory's epoch of its pool
+abbrev pub EpochsAreMemorys : Type 0
+EpochsAreMemorys =
+    (start : Store) (v : View) (z : TwoMaps) → IsSettled start v → AreLeft v z
+    → IsAtEpoch v.memory.net.cache_epoch z.cache × IsAtEpoch v.memory.net.base_epoch z.base

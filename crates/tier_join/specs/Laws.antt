@@ -1,5 +1,5 @@
 -- What is proved of the steps.
-use Rattle.std.specs.Prelude.{◌≡◌, ◌<◌, ℕ, Bool, true, false, List, Option, Some, None}
+use Rattle.std.specs.Prelude.{◌≡◌, ◌<◌, ℕ, Bool, true, false, List, [], ◌∷◌, Option, Some, None}
 use Rattle.std.specs.FinMap as fin
 use Rattle.copy_chunk.specs.declared.chunk.Chunk.{Chunk}
 use Rattle.obj_model.specs.Names.{name_fault}
@@ -20,7 +20,7 @@ use Rattle.tier_types.specs.Flights.{IsLeftOf}
 use Rattle.tier_types.specs.Serving.{Served, name_in, replies, served}
 use Rattle.tier_protocol.specs.Moves.{acted_here, begun, cleaned, drained, evicted, gathered, landed, promoted, raised_to, sent, stopped_base, stopped_cache, went_up, with_flight, with_served, MayActHere, MayBegin, MayClean, MayEvict, MayGather, MayGoUp, MayLand, MayPromote, MaySend}
 use Rattle.tier_protocol.specs.Tiers.{Name, Ask, AreIn, BaseActed, BaseMsg, BaseReply, Flight, Flights, IsIn, Phase, TierRec}
-use Rattle.tier_join.specs.Group.{Doubt, Memory, View, IsGroup, store_now}
+use Rattle.tier_join.specs.Group.{Doubt, Memory, View, BeganAt, BothTell, IsGroup, store_now}
 use Rattle.pool_keys.specs.Keys.{epoch_key, record_key, state_key}
 use Rattle.pool_keys.specs.Values.{IsRecOf, IsStateOf, SpellsEpoch}
 use Rattle.tier_join.specs.Promises.{Promises, as_it_is, with_req}
@@ -31,6 +31,17 @@ use Rattle.tier_join.specs.Steps.{Commits, HasRec, HasRecFor, HasState, HasState
 -- what holds of the group goes on
 abbrev pub GroupsGoOn : Type 0
 GroupsGoOn = (other : Store → Store) (v w : View) → Promises other v w → IsGroup v → IsGroup w
+
+-- steps one after another
+abbrev pub AreSteps : View → List View → Type 0
+AreSteps v [] = Unit {0}
+AreSteps v (w ∷ ws) = ((other : Store → Store) × Promises other v w) × AreSteps w ws
+
+-- so it holds in each moment of every run of steps, and a store at which the group began stays one
+abbrev pub RunsGoOn : Type 0
+RunsGoOn =
+    (v : View) (ws : List View) → AreSteps v ws → (w : View) → IsIn w ws
+    → (IsGroup v → IsGroup w) × ((start : Store) → BothTell v → BeganAt start v → BeganAt start w)
 
 -- a commit that has at each pair of maps what it owes
 abbrev pub CommitsPromise : Type 0

@@ -1,5 +1,5 @@
 //! The beginning, what is left, and what callers are told.
-ghost use Rattle.tier_join.specs.Ends.{ActsArePlain, BaresArePlain, EpochsAreLevel, GroupsBegin, GroupsBeginAnew, HistoriesAreLegal, LeftStands, PromotionsArePlain, ReadsArePlain, RecordsArePlain, WritesArePlain};
+ghost use Rattle.tier_join.specs.Ends.{ActsArePlain, BaresArePlain, EpochsAreLevel, EpochsAreMemorys, GroupsBegin, GroupsBeginAnew, HistoriesAreLegal, LeftStands, PromotionsArePlain, ReadsArePlain, RecordsArePlain, WritesArePlain};
 
 /// Stores whose maps stand for a plain store begin a group at it.
 pub fn groups_begin()
@@ -54,4 +54,9 @@ pub fn acts_are_plain()
 /// A cache that is up has the base's epoch.
 pub fn epochs_are_level()
     ensures { EpochsAreLevel }
+{}
+
+/// Each map that a stop leaves has the epoch of its pool that memory has.
+pub fn epochs_are_memorys()
+    ensures { EpochsAreMemorys }
 {}

@@ -1,11 +1,16 @@
 //! What holds of all steps.
 ghost use Rattle.tier_join.specs.Seen.{GuardsAreSeen};
-ghost use Rattle.tier_join.specs.Laws.{CommitsPromise, GroupsGoOn, MemoryPromises, ReadingsHold, StepsJoin, WorldsPromise};
+ghost use Rattle.tier_join.specs.Laws.{CommitsPromise, GroupsGoOn, MemoryPromises, ReadingsHold, RunsGoOn, StepsJoin, WorldsPromise};
 
 /// What a step promises is enough for the invariant to go on, over stores that tell their maps and
 /// over stores that tell nothing.
 pub fn groups_go_on()
     ensures { GroupsGoOn }
+{}
+
+/// In each moment of every run of steps the invariant holds, at a store that stays one.
+pub fn runs_go_on()
+    ensures { RunsGoOn }
 {}
 
 /// A commit in either pool that has what it owes at each pair of maps promises all that a step

@@ -22,13 +22,13 @@ pub use cache::{
 };
 pub use doubt::Doubt;
 pub use ends::{
-    acts_are_plain, bares_are_plain, epochs_are_level, groups_begin, groups_begin_anew,
-    histories_are_legal, left_stands, promotions_are_plain, reads_are_plain, records_are_plain,
-    writes_are_plain,
+    acts_are_plain, bares_are_plain, epochs_are_level, epochs_are_memorys, groups_begin,
+    groups_begin_anew, histories_are_legal, left_stands, promotions_are_plain, reads_are_plain,
+    records_are_plain, writes_are_plain,
 };
 pub use general::{
-    commits_promise, groups_go_on, guards_are_seen, memory_promises, readings_hold, steps_join,
-    worlds_promise,
+    commits_promise, groups_go_on, guards_are_seen, memory_promises, readings_hold, runs_go_on,
+    steps_join, worlds_promise,
 };
 pub use memory::{
     beginning_promises, gathering_promises, going_up_promises, landing_promises, losing_promises,
