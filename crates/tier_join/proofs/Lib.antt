@@ -10,3 +10,4 @@ pub mod Reopening
 pub mod Telling
 pub mod Groups
 pub mod Seeing
+pub mod Empty

@@ -9,6 +9,8 @@ use Rattle.obj_ops.specs.declared.reading.Looked.{Looked}
 use Rattle.obj_ops.specs.declared.request.Acted.TheVariants.{Fresh}
 use Rattle.obj_ops.specs.Acts.{act, look}
 use Rattle.obj_ops.specs.Stores.{Store, state_of}
+use Rattle.pool_keys.specs.Maps.{SpellsBase}
+use Rattle.store_face.specs.Tables.{Table}
 use Rattle.store_face.specs.Views.{StoreView}
 use Rattle.tier_types.specs.Serving.{lasting}
 use Rattle.tier_protocol.specs.Laws.{found}
@@ -32,6 +34,16 @@ found_view cache base cache_epoch base_epoch =
       doubt = None;
       memory = record { acts = t.acts; flights = t.flights; net = t.net };
     }
+
+-- A cache that has nothing yet may lie over any base, and with it stands for the base's states.
+abbrev pub EmptyCachesStand : Type 0
+EmptyCachesStand =
+    (y : Table) (base : Store) (epoch : ℕ) → SpellsBase y base epoch
+    → StandsAt 0 epoch (record { cache = fin.empty; base = y }) base
+
+-- two pools that have nothing stand for the empty store
+abbrev pub EmptyPairsStand : Type 0
+EmptyPairsStand = StandsAt 0 0 (record { cache = fin.empty; base = fin.empty }) fin.empty
 
 -- stores whose maps stand for a plain store begin a group there
 abbrev pub GroupsBegin : Type 0

@@ -1,5 +1,15 @@
 //! The beginning, what is left, and what callers are told.
-ghost use Rattle.tier_join.specs.Ends.{ActsArePlain, BaresArePlain, EpochsAreLevel, EpochsAreMemorys, GroupsBegin, GroupsBeginAnew, HistoriesAreLegal, LeftStands, PromotionsArePlain, ReadsArePlain, RecordsArePlain, WritesArePlain};
+ghost use Rattle.tier_join.specs.Ends.{ActsArePlain, BaresArePlain, EmptyCachesStand, EmptyPairsStand, EpochsAreLevel, EpochsAreMemorys, GroupsBegin, GroupsBeginAnew, HistoriesAreLegal, LeftStands, PromotionsArePlain, ReadsArePlain, RecordsArePlain, WritesArePlain};
+
+/// A cache that has nothing yet may lie over any base.
+pub fn empty_caches_stand()
+    ensures { EmptyCachesStand }
+{}
+
+/// Two pools that have nothing stand for the empty store.
+pub fn empty_pairs_stand()
+    ensures { EmptyPairsStand }
+{}
 
 /// Stores whose maps stand for a plain store begin a group at it.
 pub fn groups_begin()

@@ -22,9 +22,9 @@ pub use cache::{
 };
 pub use doubt::Doubt;
 pub use ends::{
-    acts_are_plain, bares_are_plain, epochs_are_level, epochs_are_memorys, groups_begin,
-    groups_begin_anew, histories_are_legal, left_stands, promotions_are_plain, reads_are_plain,
-    records_are_plain, writes_are_plain,
+    acts_are_plain, bares_are_plain, empty_caches_stand, empty_pairs_stand, epochs_are_level,
+    epochs_are_memorys, groups_begin, groups_begin_anew, histories_are_legal, left_stands,
+    promotions_are_plain, reads_are_plain, records_are_plain, writes_are_plain,
 };
 pub use general::{
     commits_promise, groups_go_on, guards_are_seen, memory_promises, readings_hold, runs_go_on,
