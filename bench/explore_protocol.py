@@ -1,28 +1,33 @@
 #!/usr/bin/env python3
-"""Walks small systems of the protocol between the two pools and tests every clause of its invariant.
+"""Walks small systems of the protocol between the two pools and tests each clause that holds.
 
     explore_protocol.py all DEPTH            every run of one name up to this many moves
     explore_protocol.py random RUNS MOVES    random runs over two names
-    explore_protocol.py wrong [RULE]         leaves one rule out at a time, and prints the shortest run found that
-                                             breaks a clause; fails where none is found
-    explore_protocol.py clauses [CLAUSE]     for each clause a state that breaks it alone, and the moves by which that
-                                             breaks another one; fails where no state is found
+    explore_protocol.py wrong [RULE]         leaves one rule out at a time, and prints the
+                                             shortest run found that breaks a clause; fails
+                                             where none is found
+    explore_protocol.py clauses [CLAUSE]     for each clause a state that breaks it alone, and
+                                             the moves by which that breaks another one; fails
+                                             where no state is found
 
-protocol_model.py has the moves, with commits in doubt, lists of chunks and lists of reads; protocol_clauses.py has the
-clauses.
+protocol_model.py has the moves, with commits in doubt, lists of chunks and lists of reads;
+protocol_clauses.py has the clauses.
 """
 import random
 import sys
 
 from protocol_clauses import CLAUSES, broken, numbers
-from protocol_model import DOWN, NUMBERS, RAISED, REQUESTS, UP, Options, System, at, begin, chunks, moves
+from protocol_model import (
+    DOWN, NUMBERS, RAISED, REQUESTS, UP, Options, System, at, begin, chunks, moves)
 
 RULES = [
     "older epochs are refused", "service waits for fenced", "a dropped call leaves its write",
-    "an install of no higher seq is refused", "clean only at the seq that was sent", "only clean records are evicted",
-    "each operation has a number of its own", "a stop takes the cache down", "a stop forgets all work",
-    "a write is sent under its own number", "a chunk is of this promotion", "a chunk is the wanted one",
-    "a blocking flush keeps writes out", "a doubt is settled by what is there", "fenced is of this epoch",
+    "an install of no higher seq is refused", "clean only at the seq that was sent",
+    "only clean records are evicted", "each operation has a number of its own",
+    "a stop takes the cache down", "a stop forgets all work",
+    "a write is sent under its own number", "a chunk is of this promotion",
+    "a chunk is the wanted one", "a blocking flush keeps writes out",
+    "a doubt is settled by what is there", "fenced is of this epoch",
     "a reply is of this work", "a write has one driver", "an install has the kept requests",
     "work stands where there is no record", "a flush is of a dirty record",
     "a raise goes above both", "operations are counted from 1", "an adopted write keeps its owner",
@@ -73,15 +78,17 @@ def all_runs(names, depth, most, speaks=False):
 
 
 def random_run(names, length, rng, calmness):
-    """A random run: its moves, the clauses that its last state breaks, and the kinds of moves with the doubts."""
+    """A random run: its moves, the clauses that its last state breaks, and that state."""
     system, run = started(names), []
     for _ in range(length):
         choices = [c for c in moves(system) if c[1] != system]
         if not choices:
             break
-        calm = [c for c in choices
-                if not c[0].startswith(("stop", "drop", "end", "fill")) and not c[0].endswith("doubt")]
-        label, system = rng.choice(calm) if calm and rng.random() < calmness else rng.choice(choices)
+        wild = ("stop", "drop", "end", "fill")
+        calm = [c for c in choices if not c[0].startswith(wild) and not c[0].endswith("doubt")]
+        if calm and rng.random() < calmness:
+            choices = calm
+        label, system = rng.choice(choices)
         run.append(label)
         wrong = broken(system)
         if wrong:
@@ -169,7 +176,8 @@ def any_reply(rng, world, memory):
     epoch, number = world.cache_epoch + rng.choice((0, 0, 0, -1, 1)), any_number(rng, memory)
     place, state = rng.randrange(2), any_state(rng)
     return rng.choice((
-        ("fenced", epoch), ("chunk", epoch, number, place, chunks(state)[place]), ("looked", epoch, number, 0, state),
+        ("fenced", epoch), ("chunk", epoch, number, place, chunks(state)[place]),
+        ("looked", epoch, number, 0, state),
         ("wrote", epoch, number, rng.choice((("fresh",), ("again",), ("worn",)))),
         ("installed", epoch, number, len(state)), ("no space", epoch, number, "write")))
 
@@ -178,7 +186,8 @@ def any_work(rng, world, memory, name):
     number, request = any_number(rng, memory), rng.choice(REQUESTS)
     call = (name, request, rng.randrange(2))
     return rng.choice((
-        None, ("promote", number, chunks(any_state(rng))[:rng.randrange(3)]), ("write", number, request, call, None),
+        None, ("promote", number, chunks(any_state(rng))[:rng.randrange(3)]),
+        ("write", number, request, call, None),
         ("reads", ((number, 0),)), ("reads", ((number, 0), (any_number(rng, memory), 1))),
         ("flush", number, rng.randrange(4), rng.random() < 0.5)))
 
@@ -198,7 +207,7 @@ def changed(rng, system):
         memory = memory._replace(replies=memory.replies | {any_reply(rng, world, memory)})
     elif what <= 6:
         memory = memory._replace(work=at(memory.work, name, any_work(rng, world, memory, name)))
-        drivers = {f[4] for f in memory.work if f is not None and f[0] == "write" and f[4] is not None}
+        drivers = {f[4] for f in memory.work if f is not None and f[0] == "write"}
         memory = memory._replace(waits=memory.waits & drivers)
     elif what == 7:
         memory = memory._replace(next=max(0, memory.next + rng.choice((-2, -1, 1))))
@@ -214,28 +223,34 @@ def changed(rng, system):
             acts = rng.choice((acts[:-1], acts + acts[-1:], acts[::-1]))
         base = rng.choice((plain, plain[:-1], any_state(rng)))
         record = rng.choice((None, (plain, True), (plain, False), (any_state(rng), True)))
-        world = world._replace(plain=at(world.plain, name, plain), base=at(world.base, name, base),
-                               opening=at(world.opening, name, opening), records=at(world.records, name, record), acts=acts)
+        world = world._replace(
+            plain=at(world.plain, name, plain), base=at(world.base, name, base),
+            opening=at(world.opening, name, opening), records=at(world.records, name, record),
+            acts=acts)
     elif what == 10:
         epochs = {"cache_epoch": max(0, world.cache_epoch + rng.choice((-1, 1)))}
         base = {"base_epoch": max(0, world.base_epoch + rng.choice((-1, 1)))}
         world = world._replace(**rng.choice((epochs, base)))
     elif what == 11:
         plain, epoch = ((1, 1), (1, 2), (2, 1), (2, 2)), world.cache_epoch
-        world = world._replace(opening=at(world.opening, name, plain), plain=at(world.plain, name, plain),
-                               base=at(world.base, name, plain[:-1]), records=at(world.records, name, (plain, True)),
-                               acts=tuple(c for c in world.acts if c[0] != name))
-        memory = memory._replace(owned=memory.owned | {(epoch, 0, (name, (3, 1), 0))}, wire=memory.wire | {
-            ("install", epoch, 0, name, plain), ("write", epoch, 0, name, (3, 1))})
+        world = world._replace(
+            opening=at(world.opening, name, plain), plain=at(world.plain, name, plain),
+            base=at(world.base, name, plain[:-1]), records=at(world.records, name, (plain, True)),
+            acts=tuple(c for c in world.acts if c[0] != name))
+        sent = {("install", epoch, 0, name, plain), ("write", epoch, 0, name, (3, 1))}
+        memory = memory._replace(
+            owned=memory.owned | {(epoch, 0, (name, (3, 1), 0))}, wire=memory.wire | sent)
     elif what == 12:
         memory = memory._replace(wire=frozenset(m for m in memory.wire if rng.random() < 0.3))
     elif what == 13:
         flight = any_work(rng, world, memory, name)
-        memory = memory._replace(work=at(memory.work, name, flight), wire=frozenset(), replies=frozenset())
+        memory = memory._replace(
+            work=at(memory.work, name, flight), wire=frozenset(), replies=frozenset())
     else:
         calls = [(name, r, a) for r in REQUESTS for a in range(2)]
         memory = memory._replace(**rng.choice((
-            {"closed": memory.closed ^ {rng.choice(calls)}}, {"waits": memory.waits ^ {rng.choice(calls)}},
+            {"closed": memory.closed ^ {rng.choice(calls)}},
+            {"waits": memory.waits ^ {rng.choice(calls)}},
             {"owned": frozenset(x for x in memory.owned if rng.random() < 0.5)},
             {"owned": frozenset((e, op, c[:2] + (1 - c[2],)) for e, op, c in memory.owned)})))
     return System((world,), memory)
@@ -262,7 +277,8 @@ def harm(system, clause, most=400, depth=3):
 
 
 def clause_states(wanted, rounds):
-    """For each clause a run, what is changed then, so that the state breaks this clause alone, and the harm."""
+    """For each clause a run, what is changed then, so that the state breaks this clause alone, and
+    the harm."""
     Options.fills, Options.vectors, Options.attempts = True, (0, 1), 2
     rng, best, tried = random.Random(7), {}, {}
     for _ in range(rounds):
@@ -320,12 +336,14 @@ def main():
         for _ in range(int(words[0])):
             run, wrong, _ = random_run(2, int(words[1]), rng, 0.9)
             for label in run:
-                kinds[label.split()[0]] = kinds.get(label.split()[0], 0) + 1
+                kind = label.split()[0].rstrip(",")
+                kinds[kind] = kinds.get(kind, 0) + 1
                 doubts += label.endswith("doubt")
             if wrong:
                 print("broken", wrong, run)
                 return 1
-        print("doubts", doubts, "moves", ", ".join("%s %d" % k for k in sorted(kinds.items())))
+        print("moves", sum(kinds.values()), "doubts", doubts)
+        print(", ".join("%s %d" % k for k in sorted(kinds.items())))
         return 0
     if what == "wrong":
         missed = 0
@@ -342,8 +360,10 @@ def main():
                 print(clause, "|", "NOT FOUND")
                 continue
             run, change, found = best[clause]
-            print(clause, "|", "; ".join(run), "|", change, "|", "no harm in three moves" if found is None else
-                  "%s: %s" % ("; ".join(found[0]), ", ".join(found[1])), flush=True)
+            harmed = "no harm in three moves"
+            if found is not None:
+                harmed = "%s: %s" % ("; ".join(found[0]), ", ".join(found[1]))
+            print(clause, "|", "; ".join(run), "|", change, "|", harmed, flush=True)
         return 1 if len(best) < len(words or CLAUSES) else 0
     print(__doc__)
     return 2

@@ -1,12 +1,14 @@
 """Every clause of the invariant of the protocol between the two pools, by name."""
 from protocol_model import LIMIT, RAISED, UP, DOWN, act, chunks, kept
 
-# the rows of the two tables of docs/semantics/protocol.md, and the clauses of the owners, in their order
+# the rows of the tables of docs/semantics/protocol.md, in their order
 CLAUSES = [
-    "work stands only while up", "numbers are below the next", "silent until fenced", "no epoch above the cache's",
+    "work stands only while up", "numbers are below the next", "silent until fenced",
+    "no epoch above the cache's",
     "a number's message is its work's", "numbers are apart", "counted from 1",
-    "both epochs are one", "epochs are known", "the base is behind or level", "clean is level, records show",
-    "seq has its limit", "bare work has no record", "chunks are the first ones", "flushes stand over dirty",
+    "both epochs are one", "epochs are known", "the base is behind or level",
+    "clean is level, records show", "seq has its limit", "bare work has no record",
+    "chunks are the first ones", "flushes stand over dirty",
     "installs are behind", "writes are harmless", "answers hold",
     "the history is legal", "writes have owners", "owners are open or spent",
     "a write's owner is told", "each driver waits",
@@ -14,7 +16,9 @@ CLAUSES = [
 
 
 def numbers(flight):
-    return () if flight is None else tuple(r[0] for r in flight[1]) if flight[0] == "reads" else (flight[1],)
+    if flight is None:
+        return ()
+    return tuple(r[0] for r in flight[1]) if flight[0] == "reads" else (flight[1],)
 
 
 def spent(world, memory, name, request):
@@ -61,7 +65,7 @@ def memory_clauses(epoch, memory):
                 own = own and (m[0] != "look" or all(m[4] == v for x, v in flight[1] if x == m[2]))
                 yield "a number's message is its work's", own
         for p in memory.replies:
-            if flight is not None and p[0] == "no space" and p[1] == epoch and p[2] in numbers(flight):
+            if p[:2] == ("no space", epoch) and p[2] in numbers(flight):
                 yield "a number's message is its work's", p[3] == kinds[flight[0]]
     drivers = [f[4] for f in memory.work if f is not None and f[0] == "write" and f[4] is not None]
     yield "each driver waits", sorted(drivers) == sorted(memory.waits)
@@ -105,7 +109,8 @@ def name_clauses(world, memory, name):
         dirty = record is not None and record[1] and flight[2] <= len(plain)
         yield "flushes stand over dirty", dirty and (not flight[3] or flight[2] == len(plain))
         yield "flushes stand over dirty", all(
-            flight[2] <= len(m[4]) for m in memory.wire if m[0] == "install" and m[1:3] == (epoch, flight[1]))
+            flight[2] <= len(m[4]) for m in memory.wire
+            if m[0] == "install" and m[1:3] == (epoch, flight[1]))
     for p in memory.replies:
         if p[0] == "fenced" or p[1] != epoch or p[2] not in numbers(flight):
             continue
@@ -132,7 +137,8 @@ def owner_clauses(world, memory):
         if m[0] != "write":
             continue
         call = owned.get((m[1], m[2]))
-        yield "writes have owners", call is not None and call[:2] == m[3:5] and m[1] <= world.base_epoch
+        asked = call is not None and call[:2] == m[3:5]
+        yield "writes have owners", asked and m[1] <= world.base_epoch
         if call is not None and m[1] >= world.base_epoch:
             free = call not in world.acts and call not in memory.closed
             yield "owners are open or spent", free or spent(world, memory, m[3], m[4])
@@ -141,7 +147,8 @@ def owner_clauses(world, memory):
             continue
         number, request, owner = flight[1:4]
         yield "a write's owner is told", owner[:2] == (name, request) and owner not in memory.closed
-        yield "a write's owner is told", owner not in world.acts or act(world.base[name], request)[0] == "again"
+        again = act(world.base[name], request)[0] == "again"
+        yield "a write's owner is told", owner not in world.acts or again
         yield "a write's owner is told", owned.get((world.cache_epoch, number), owner) == owner
         fresh = ("wrote", world.cache_epoch, number, ("fresh",)) in memory.replies
         yield "a write's owner is told", not fresh or owner in world.acts

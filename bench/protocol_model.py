@@ -1,9 +1,10 @@
 """The protocol between the two pools over small values, with every clause of its invariant.
 
-The definitions are those of crates/tier_protocol/specs and crates/tier_owners/specs. A name's state is the tuple of
-the requests (client, tid) that acted on it, cut into two chunks; LIMIT requests wear a name out. A call is (name,
-request, attempt): a client may ask one request twice. While a commit is in doubt a system has two worlds over one
-memory, and the clauses are tested in both.
+The definitions are those of crates/tier_protocol/specs and crates/tier_owners/specs. A name's
+state is the tuple of the requests (client, tid) that acted on it, cut into two chunks; LIMIT
+requests wear a name out. A call is (name, request, attempt): a client may ask one request twice.
+While a commit is in doubt a system has two worlds over one memory, and the clauses are tested in
+both.
 """
 from collections import namedtuple
 
@@ -13,16 +14,17 @@ REQUESTS = [(1, 1), (1, 2), (2, 1)]
 
 
 class Options:
-    """What a walk has in it: the rule that is left out, wants of space, the vectors that readers ask, and how often a
-    client may ask one request."""
+    """What a walk has in it: the rule that is left out, wants of space, the vectors that readers
+    ask, and how often a client may ask one request."""
     left_out = None
     fills = False
     vectors = (0,)
     attempts = 1
 
 
-# what the pools have, and the plain store with the calls that acted; and what memory and the wire have
+# what the pools have, and the plain store with the calls that acted
 World = namedtuple("World", "records base opening plain acts cache_epoch base_epoch")
+# what memory and the wire have
 Memory = namedtuple("Memory", "work wire replies next phase fenced owned closed waits")
 System = namedtuple("System", "worlds memory")
 
@@ -57,11 +59,13 @@ def begin(names):
     world = World(none, empty, empty, empty, (), 0, 0)
     nothing = frozenset()
     first = 0 if without("operations are counted from 1") else 1
-    return System((world,), Memory(none, nothing, nothing, first, DOWN, False, nothing, nothing, nothing))
+    memory = Memory(none, nothing, nothing, first, DOWN, False, nothing, nothing, nothing)
+    return System((world,), memory)
 
 
 def acted(world, memory, name, request, call):
-    """The world in which the request acts on the plain store as well, as the act of this call, or as one too late."""
+    """The world in which the request acts on the plain store as well, as the act of this call, or
+    as one too late."""
     plain = act(world.plain[name], request)
     if call is None or call in world.acts or call in memory.closed:
         call = (name, request, "too late")
@@ -79,7 +83,9 @@ def served(world, memory, message):
     """The world after the base took the message, and its reply."""
     kind, epoch, have = message[0], message[1], world.base_epoch
     if kind == "fence":
-        return (world, None) if epoch < have else (world._replace(base_epoch=epoch), ("fenced", epoch))
+        if epoch < have:
+            return world, None
+        return world._replace(base_epoch=epoch), ("fenced", epoch)
     if epoch < have and not without("older epochs are refused"):
         return world, None
     if epoch > have:
@@ -98,7 +104,8 @@ def served(world, memory, message):
                 flight = memory.work[name]
                 if flight is not None and flight[0] == "write" and flight[4] is not None:
                     call = flight[4]
-            world = acted(world._replace(base=at(world.base, name, answer[1])), memory, name, message[4], call)
+            world = world._replace(base=at(world.base, name, answer[1]))
+            world = acted(world, memory, name, message[4], call)
             answer = ("fresh",)
         return world, ("wrote", epoch, number, answer)
     if len(state) < len(message[4]) or without("an install of no higher seq is refused"):
@@ -109,13 +116,13 @@ def served(world, memory, message):
 # ---- moves of the pools and of work
 
 def calls_for(world, memory, name, request):
-    """The calls that may act, or begin a write, for this request: open, and not waiting; a second attempt comes
-    behind the first."""
+    """The calls that may act, or begin a write, for this request: open, and not waiting; a second
+    attempt comes behind the first."""
     owners = {call for _, _, call in memory.owned}
     found = []
     for attempt in range(Options.attempts):
         call = (name, request, attempt)
-        used = call in world.acts or call in memory.closed or call in owners or call in memory.waits
+        used = any(call in calls for calls in (world.acts, memory.closed, owners, memory.waits))
         if call not in memory.waits and (without("a call acts once") or (
                 call not in world.acts and call not in memory.closed)):
             found.append(call)
@@ -130,8 +137,8 @@ def sent_state(record):
 
 
 def pool_moves(world, memory):
-    """(label, world, memory, failed): where the move is a commit, which may be in doubt, the last part is the memory
-    that the commit leaves where it fails."""
+    """(label, world, memory, failed): where the move is a commit, which may be in doubt, the last
+    part is the memory that the commit leaves where it fails."""
     epoch, work = world.cache_epoch, memory.work
     for message in sorted(memory.wire):
         after, reply = served(world, memory, message)
@@ -140,7 +147,8 @@ def pool_moves(world, memory):
         if Options.fills and message[0] in ("fence", "write", "install"):
             number = 0 if message[0] == "fence" else message[2]
             reply = ("no space", message[1], number, message[0])
-            yield "fill %s" % (message,), world, memory._replace(replies=memory.replies | {reply}), None
+            told = memory._replace(replies=memory.replies | {reply})
+            yield "fill %s" % (message,), world, told, None
     first = 0 if without("operations are counted from 1") else 1
     if memory.phase == DOWN and epoch < EPOCHS:
         higher = max(epoch, world.base_epoch) + 1
@@ -165,26 +173,30 @@ def begin_moves(world, memory, name):
         return
 
     def starts(flight, message, **more):
-        return memory._replace(work=at(work, name, flight), wire=memory.wire | {message}, next=number + 1, **more)
+        return memory._replace(
+            work=at(work, name, flight), wire=memory.wire | {message}, next=number + 1, **more)
 
     bare = record is None or (without("work stands where there is no record") and not record[1])
     if bare and flight is None:
-        yield "promote %d" % name, world, starts(("promote", number, ()), ("get", epoch, number, name, 0)), None
+        asked = starts(("promote", number, ()), ("get", epoch, number, name, 0))
+        yield "promote %d" % name, world, asked, None
         for request in REQUESTS:
             for call in calls_for(world, memory, name, request):
                 used = number
                 if without("a write is sent under its own number"):
                     used = next((f[1] for f in work if f is not None and f[0] == "write"), number)
-                yield ("write %s" % (call,), world,
-                       starts(("write", number, request, call, call), ("write", epoch, used, name, request),
-                              owned=memory.owned | {(epoch, used, call)}, waits=memory.waits | {call}), None)
+                asked = starts(
+                    ("write", number, request, call, call), ("write", epoch, used, name, request),
+                    owned=memory.owned | {(epoch, used, call)}, waits=memory.waits | {call})
+                yield "write %s" % (call,), world, asked, None
     if bare and (flight is None or flight[0] == "reads"):
         for vector in Options.vectors:
             reads = (() if flight is None else flight[1]) + ((number, vector),)
             yield ("read %d %d" % (name, vector), world,
                    starts(("reads", reads), ("look", epoch, number, name, vector)), None)
     dirty = record is not None and record[1]
-    if flight is None and (dirty or (without("a flush is of a dirty record") and record is not None)):
+    any_record = without("a flush is of a dirty record") and record is not None
+    if flight is None and (dirty or any_record):
         for blocking in (False, True):
             yield ("flush %d blocking %s" % (name, blocking), world,
                    starts(("flush", number, len(record[0]), blocking),
@@ -199,12 +211,14 @@ def record_moves(world, memory, name):
     def put(record):
         return world._replace(records=at(world.records, name, record))
 
-    lets = flight is None or (flight[0] == "flush" and (not flight[3] or without("a blocking flush keeps writes out")))
+    lets = flight is None or (flight[0] == "flush" and (
+        not flight[3] or without("a blocking flush keeps writes out")))
     for request in REQUESTS if lets else []:
         answer = act(record[0], request)
         for call in calls_for(world, memory, name, request) if answer[0] == "fresh" else []:
             done = memory._replace(closed=memory.closed | {call})
-            yield "act %s" % (call,), acted(put((answer[1], True)), memory, name, request, call), done, memory
+            after = acted(put((answer[1], True)), memory, name, request, call)
+            yield "act %s" % (call,), after, done, memory
     if flight is None and (not record[1] or without("only clean records are evicted")):
         yield "evict %d" % name, put(None), memory, memory
 
@@ -229,7 +243,8 @@ def work_moves(world, memory, name):
     number = flight[1]
     if flight[0] == "reads":
         for read in flight[1]:
-            yield "look again %s" % (read,), world, sends(("look", epoch, read[0], name, read[1])), None
+            asked = sends(("look", epoch, read[0], name, read[1]))
+            yield "look again %s" % (read,), world, asked, None
     if flight[0] == "promote":
         got = flight[2]
         if len(got) < 2:
@@ -243,21 +258,24 @@ def work_moves(world, memory, name):
     if flight[0] == "write":
         request, owner, driver = flight[2:]
         owned = memory.owned | {(epoch, number, owner)}
-        yield "again %d" % name, world, sends(("write", epoch, number, name, request), owned=owned), None
+        message = ("write", epoch, number, name, request)
+        yield "again %d" % name, world, sends(message, owned=owned), None
         if driver is None or without("a write has one driver"):
             for call in calls_for(world, memory, name, request):
                 taken = at(work, name, ("write", number, request, owner, call))
                 if without("an adopted write keeps its owner"):
                     taken = at(work, name, ("write", number, request, call, call))
-                yield "adopt %s" % (call,), world, sends(
-                    ("write", epoch, number, name, request), work=taken, waits=memory.waits | {call}, owned=owned), None
+                asked = sends(message, work=taken, waits=memory.waits | {call}, owned=owned)
+                yield "adopt %s" % (call,), world, asked, None
         for reply in replies("wrote", number, "a reply is of this work"):
             ended = free._replace(waits=memory.waits - {driver})
             if reply[3][0] != "worn":
-                ended = ended._replace(closed=memory.closed | {c for c in (owner, driver) if c is not None})
+                answered = {c for c in (owner, driver) if c is not None}
+                ended = ended._replace(closed=memory.closed | answered)
             yield "landed %d %s" % (name, reply), world, ended, None
     if flight[0] == "flush" and record is not None:
-        yield "flush again %d" % name, world, sends(("install", epoch, number, name, sent_state(record))), None
+        message = ("install", epoch, number, name, sent_state(record))
+        yield "flush again %d" % name, world, sends(message), None
         for reply in replies("installed", number):
             if len(record[0]) == flight[2] or without("clean only at the seq that was sent"):
                 yield "clean %d %s" % (name, reply), put((record[0], False)), free, free
@@ -274,7 +292,8 @@ def memory_moves(worlds, memory):
     yield "stop cache", memory._replace(work=work, phase=down, fenced=False, waits=waits)
     yield "stop base", memory._replace(fenced=False)
     fenced = [p[1] for p in memory.replies if p[0] == "fenced"]
-    if memory.phase != DOWN and (worlds[0].cache_epoch in fenced or (fenced and without("fenced is of this epoch"))):
+    told = worlds[0].cache_epoch in fenced or (fenced and without("fenced is of this epoch"))
+    if memory.phase != DOWN and told:
         yield "up", memory._replace(phase=UP, fenced=True)
     for name, flight in enumerate(memory.work):
         if flight is None:
@@ -293,8 +312,8 @@ def memory_moves(worlds, memory):
         if flight[0] == "reads":
             for read in flight[1]:
                 rest = tuple(x for x in flight[1] if x != read)
-                yield ("end read %s" % (read,),
-                       memory._replace(work=at(memory.work, name, ("reads", rest) if rest else None)))
+                left = ("reads", rest) if rest else None
+                yield "end read %s" % (read,), memory._replace(work=at(memory.work, name, left))
 
 
 def settled(worlds, memory):
@@ -319,4 +338,5 @@ def moves(system):
         yield label, System((world,), after)
         if failed is not None and world != worlds[0]:
             dropped = {f[4] for f in memory.work if f is not None and f[0] == "write"}
-            yield label + ", in doubt", System((worlds[0], world), failed._replace(waits=failed.waits & dropped))
+            failed = failed._replace(waits=failed.waits & dropped)
+            yield label + ", in doubt", System((worlds[0], world), failed)

@@ -1,17 +1,15 @@
 -- A request acts on a record: the act is its call's.
-use Rattle.std.proofs.Common.{◌≡◌, ◌≢◌, ◌<◌, ◌≤◌, ◌⊎◌, ℕ, Bool, true, false, List, [], ◌∷◌, ◌++◌, Option, Some, None, refl, sym, ap, subst, ◌∙◌, arith, inl, inr}
-use Rattle.obj_model.specs.declared.reply.Reply.{Reply}
+use Rattle.std.proofs.Common.{◌≡◌, ◌≢◌, ◌≤◌, ◌⊎◌, ℕ, true, [], ◌∷◌, ◌++◌, Option, Some, None, refl, sym, ap, subst, ◌∙◌, inl, inr}
 use Rattle.obj_model.specs.declared.req.Req.{Req}
-use Rattle.obj_model.specs.declared.state.NameState.{NameState}
-use Rattle.obj_ops.specs.declared.request.Acted.TheVariants.{Fresh, Again}
+use Rattle.obj_ops.specs.declared.request.Acted.TheVariants.{Fresh}
 use Rattle.obj_ops.specs.Acts.{act}
-use Rattle.tier_types.specs.Flights.{is_bare, lets_write}
-use Rattle.tier_protocol.specs.Tiers.{Name, Flight, TierRec, BaseMsg, BaseReply, BaseActed, Phase, Tier, Cell, IsIn, cell_of}
-use Rattle.tier_protocol.specs.Sound.{Covers, IsSound, IsSpent, IsWriting}
-use Rattle.tier_protocol.specs.Moves.{acted_here, with_act, MayActHere}
-use Rattle.tier_protocol.specs.Owners.{CallAct, IsOpen, Ledger, Owned, SoundOwners, SoundWriting, with_call_act}
+use Rattle.tier_types.specs.Flights.{lets_write}
+use Rattle.tier_protocol.specs.Tiers.{Name, Flight, TierRec, BaseMsg, Tier, Cell, IsIn, cell_of}
+use Rattle.tier_protocol.specs.Sound.{IsSpent}
+use Rattle.tier_protocol.specs.Moves.{acted_here, with_act}
+use Rattle.tier_protocol.specs.Owners.{CallAct, IsOpen, Owned, with_call_act}
 use Rattle.tier_protocol.proofs.Cells.{act_here, act_there, rec_here, rec_there, same_or_not}
-use Rattle.tier_protocol.proofs.Owners.{in_last, in_more, in_old, map_more, once_more, one_asked, same_call}
+use Rattle.tier_protocol.proofs.Owners.{in_more, in_old, map_more, once_more, one_asked, same_call}
 use Rattle.tier_protocol.proofs.Requests.{covers_stays}
 use Rattle.tier_protocol.proofs.Steps.{shown}
 use Rattle.tier_owners.specs.Calls.{ActingKeepsOwners}

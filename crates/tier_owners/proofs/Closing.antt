@@ -1,5 +1,5 @@
 -- Calls ask, and are answered for good.
-use Rattle.std.proofs.Common.{◌≡◌, ◌≢◌, ◌<◌, ◌≤◌, ◌⊎◌, ℕ, Bool, true, false, eqb, List, [], ◌∷◌, Option, Some, None, refl, sym, ap, subst, ◌∙◌, arith, inl, inr}
+use Rattle.std.proofs.Common.{◌≡◌, ◌≢◌, ◌≤◌, ℕ, true, false, Option, Some, None, refl, sym, ap, subst, ◌∙◌, inl, inr}
 use Rattle.std.specs.Prelude.{if◌then◌else◌, ◌==◌}
 use Rattle.std.specs.FinMap as fin
 use Rattle.std.proofs.lemmas.Bool.{ne_eqb}
@@ -8,16 +8,16 @@ use Rattle.obj_model.specs.declared.req.Req.{Req}
 use Rattle.obj_ops.specs.Acts.{act}
 use Rattle.tier_types.specs.Flights.{is_bare, is_write}
 use Rattle.tier_types.specs.Serving.{lasting}
-use Rattle.tier_protocol.specs.Tiers.{Name, Flight, TierRec, BaseMsg, BaseReply, BaseActed, Phase, Tier, Cell, IsIn, cell_of}
-use Rattle.tier_protocol.specs.Sound.{Covers, IsSound, IsSpent, is_fresh}
+use Rattle.tier_protocol.specs.Tiers.{Name, Flight, BaseMsg, BaseReply, BaseActed, Tier, IsIn, cell_of}
+use Rattle.tier_protocol.specs.Sound.{IsSound, IsSpent, is_fresh}
 use Rattle.tier_protocol.specs.Laws.{found}
-use Rattle.tier_protocol.specs.Moves.{landed, MayLand}
-use Rattle.tier_protocol.specs.Owners.{Asking, CallAct, IsOpen, Ledger, Owned, SoundOwners, SoundWriting}
+use Rattle.tier_protocol.specs.Moves.{landed}
+use Rattle.tier_protocol.specs.Owners.{Asking, Ledger, Owned, SoundOwners, SoundWriting}
 use Rattle.tier_protocol.proofs.Cells.{flight_here, flight_there, same_or_not}
 use Rattle.tier_protocol.proofs.Names.{spent_then}
-use Rattle.tier_protocol.proofs.Owners.{free_not_write, one_asked, one_req, quiet_keeps, same_call}
+use Rattle.tier_protocol.proofs.Owners.{free_not_write, one_asked, same_call}
 use Rattle.tier_protocol.proofs.Requests.{spent_of}
-use Rattle.tier_owners.specs.Calls.{AnsweredHereMayClose, AskingKeepsOwners, ClosingKeepsOwners, FoundIsOwned, HasAsked, LandedMayClose, MayClose, ReadersMayClose, UnsentMayClose, blank, with_asked, with_closed}
+use Rattle.tier_owners.specs.Calls.{AnsweredHereMayClose, AskingKeepsOwners, ClosingKeepsOwners, FoundIsOwned, HasAsked, LandedMayClose, ReadersMayClose, UnsentMayClose}
 use Rattle.tier_owners.proofs.Spent.{spent_over_record}
 
 pub found_owned : FoundIsOwned
@@ -138,7 +138,8 @@ landed_closes t l k driver owner op r b h w may = record { idle = idle; spent = 
 
     told : act (cell_of t k).base r ≡ lasting b
     told =
-        (h.names k).told (BaseReply.Wrote t.net.cache_epoch op b) may.reply refl driver owner r may.flight
+        (h.names k).told (BaseReply.Wrote t.net.cache_epoch op b) may.reply refl driver owner r
+        may.flight
 
     here : IsSpent k (cell_of t k) t.net r
     here =

@@ -1,94 +1,24 @@
 -- What moves do to the history: it grows, by acts of calls that are open, and no request id acts
 -- twice.
-use Rattle.std.proofs.Common.{◌≡◌, ◌≢◌, ◌⊎◌, ℕ, Bool, true, false, List, [], ◌∷◌, ◌++◌, Some, unwrap_or, refl, sym, ap, subst, ◌∙◌, arith, inl, inr}
-use Rattle.std.specs.Prelude.{if◌then◌else◌, ◌==◌}
+use Rattle.std.proofs.Common.{◌≡◌, ℕ, true, false, List, [], ◌∷◌, ◌++◌, Some, unwrap_or, refl, sym, ap, subst, ◌∙◌, arith, inl, inr}
 use Rattle.obj_model.specs.States.{unknown}
-use Rattle.obj_model.specs.declared.reply.Reply.{Reply}
 use Rattle.obj_model.specs.declared.req.Req.{Req}
-use Rattle.obj_model.specs.declared.state.NameState.{NameState}
 use Rattle.obj_ops.specs.declared.request.Acted.{Acted}
 use Rattle.obj_ops.specs.declared.request.Acted.TheVariants.{Fresh, Again, Stale, Worn}
 use Rattle.obj_ops.specs.Acts.{act, kept_of}
 use Rattle.obj_ops.specs.Stores.{Store, replay, state_of, store_after}
 use Rattle.obj_laws.specs.Requests.{HasTid}
 use Rattle.obj_laws.proofs.Requesting.{acts_count, tids_stay}
-use Rattle.tier_protocol.specs.Tiers.{Name, Tier, BaseMsg, IsIn}
+use Rattle.tier_protocol.specs.Tiers.{IsIn}
 use Rattle.tier_protocol.specs.Sound.{AreFresh, Covers, is_fresh, is_past}
 use Rattle.tier_protocol.specs.Owners.{CallAct, IsOpen}
 use Rattle.tier_protocol.proofs.Cells.{get_here}
-use Rattle.tier_protocol.proofs.Owners.{acts_for, in_more}
+use Rattle.tier_protocol.proofs.Owners.{in_more}
 use Rattle.tier_protocol.proofs.Requests.{keeps_past}
-use Rattle.tier_owners.specs.Moving.{IsHeld, IsRun, Moves, System, with_tier, delivers, acts_there, fills, acts_here, gathers, promotes, cleans, drains, evicts, begins_write, begins, sends_write, sends, lands, loses, stops_cache, stops_base, raises, finds, counts, goes_up, asks, closes}
-use Rattle.tier_owners.specs.Runs.{ClosedActNoMore, GoesOn, HaveOneId, HistoryGrows, IdsActOnce, LegalActOnce}
+use Rattle.tier_owners.specs.Moving.{IsHeld, IsRun, System}
+use Rattle.tier_owners.specs.Runs.{ClosedActNoMore, GoesOn, HaveOneId, HistoryGrows, LegalActOnce}
+use Rattle.tier_owners.proofs.Effects.{Effect, effect}
 use Rattle.tier_owners.proofs.Keeping.{moves_keep}
-
--- ---- what one move does to the history and to the calls that are closed
-
--- one act more, of a call that is open
-record OneMore (s u : System) : Type 0 where
-  new : CallAct
-  acts : u.ledger.acts ≡ s.ledger.acts ++ new ∷ []
-  free : IsHeld s → IsOpen s.ledger new.call
-
-record Effect (s u : System) : Type 0 where
-  opening : u.tier.opening ≡ s.tier.opening
-  acts : (u.ledger.acts ≡ s.ledger.acts) ⊎ OneMore s u
-  closed : (call : ℕ) → s.ledger.closed call ≡ true → u.ledger.closed call ≡ true
-
--- a move of the pair alone
-plainly : (s : System) (t : Tier) → t.opening ≡ s.tier.opening → Effect s (with_tier s t)
-plainly s t opening = record { opening = opening; acts = inl refl; closed = λ call e. e }
-
-stays_closed : (b c : Bool) → c ≡ true → (if b then true else c) ≡ true
-stays_closed true c e = refl
-stays_closed false c e = e
-
-effect : (s u : System) → Moves s u → Effect s u
-effect s u (delivers m on none) = plainly s _ refl
-effect s u (acts_there e op r state answer o may) = record {
-  opening = refl;
-  acts = inr (record {
-    new = record { call = o.call; line = o.line; req = r; reply = answer };
-    acts = refl;
-    free = λ h. (acts_for s.tier s.ledger e op r state answer o h.sound h.owners may.on may.level may.acts
-        may.owned (may.epoch, may.opid, may.req)).0;
-  });
-  closed = λ call e. e;
-}
-effect s u (fills m used need limit may) = plainly s _ refl
-effect s u (acts_here rec r state answer moment call line may asked free) = record {
-  opening = refl;
-  acts = inr (record {
-    new = record { call = call; line = line; req = r; reply = answer };
-    acts = refl;
-    free = λ h. free;
-  });
-  closed = λ call e. e;
-}
-effect s u (gathers k call op gather ask x may) = plainly s _ refl
-effect s u (promotes k call op gather ask state moment may) = plainly s _ refl
-effect s u (cleans k call op seq m blocking drain rec may) = plainly s _ refl
-effect s u (drains k call op seq m blocking drain rec may) = plainly s _ refl
-effect s u (evicts k may) = plainly s _ refl
-effect s u (begins_write k driver owner op line r up may asked free) = plainly s _ refl
-effect s u (begins k f up may idle) = plainly s _ refl
-effect s u (sends_write op r driver owner line f asked) =
-    record { opening = refl; acts = inl refl; closed = λ call e. e }
-effect s u (sends m may plain) = plainly s _ refl
-effect s u (lands k driver owner op r a may) = plainly s _ refl
-effect s u (loses t may) = plainly s t (ap (λ x. x.opening) may.same)
-effect s u stops_cache = plainly s _ refl
-effect s u stops_base = plainly s _ refl
-effect s u (raises e may) = plainly s _ refl
-effect s u (finds e may) = plainly s _ refl
-effect s u (counts may) = plainly s _ refl
-effect s u (goes_up may) = plainly s _ refl
-effect s u (asks call a none fresh) = record { opening = refl; acts = inl refl; closed = λ c e. e }
-effect s u (closes call may) = record {
-  opening = refl;
-  acts = inl refl;
-  closed = λ c e. stays_closed (c == call) (s.ledger.closed c) e;
-}
 
 -- ---- the history goes on
 
@@ -152,7 +82,8 @@ run_closed (v ∷ us) s call h run shut u (inr on) a is mine =
     mine
 
 pub closed_act_no_more : ClosedActNoMore
-closed_act_no_more s us call h run shut u on a is mine = run_closed us s call h run shut u on a is mine
+closed_act_no_more s us call h run shut u on a is mine = run_closed us s call h run shut u on a is
+    mine
 
 -- ---- request ids
 

@@ -1,98 +1,108 @@
 -- Each move keeps what holds, and so does each run.
-use Rattle.std.proofs.Common.{◌≡◌, ◌≢◌, ◌<◌, ◌≤◌, ◌⊎◌, ℕ, Bool, true, false, List, [], ◌∷◌, ◌++◌, map, Option, Some, None, refl, sym, ap, subst, ◌∙◌, arith, inl, inr}
-use Rattle.obj_model.specs.declared.req.Req.{Req}
+use Rattle.std.proofs.Common.{false, List, [], ◌∷◌, ◌++◌, Some, None, refl, sym, subst, inl, inr}
 use Rattle.tier_protocol.specs.Tiers.{Flight, Tier, BaseMsg, IsIn}
 use Rattle.tier_protocol.specs.Sound.{IsSound}
-use Rattle.tier_protocol.specs.Moves.{delivered, filled}
-use Rattle.tier_protocol.specs.Owners.{CallAct, Ledger, Quiet, SoundOwners}
+use Rattle.tier_protocol.specs.Moves.{filled}
+use Rattle.tier_protocol.specs.Owners.{Quiet, SoundOwners}
 use Rattle.tier_protocol.proofs.Delivers.{delivering, filling}
-use Rattle.tier_protocol.proofs.Owners.{acts_for, in_more, losses_quiet, quiet_keeps}
+use Rattle.tier_protocol.proofs.Owners.{acts_for, losses_quiet, quiet_keeps}
 use Rattle.tier_protocol.proofs.Steps.{acting, beginning, cleaning, counting, evicting, finding, gathering, going_up, landing, losing, promoting, raising, sending, stopping}
-use Rattle.tier_owners.specs.Moving.{IsHeld, IsRun, MayActThere, Moves, System, with_tier, delivers, acts_there, fills, acts_here, gathers, promotes, cleans, drains, evicts, begins_write, begins, sends_write, sends, lands, loses, stops_cache, stops_base, raises, finds, counts, goes_up, asks, closes}
+use Rattle.tier_owners.specs.Moving.{IsHeld, IsRun, Moves, System, with_tier, delivers, acts_there, fills, acts_here, gathers, promotes, cleans, drains, evicts, begins_write, begins, sends_write, sends, lands, loses, stops_cache, stops_base, raises, finds, counts, goes_up, asks, closes}
 use Rattle.tier_owners.specs.Runs.{MovesKeep, RunsKeep}
 use Rattle.tier_owners.proofs.Acting.{acting_owned}
 use Rattle.tier_owners.proofs.Closing.{asking_owned, closing_owned}
+use Rattle.tier_owners.proofs.Effects.{answered_still, effect}
 use Rattle.tier_owners.proofs.Quiets.{counting_keeps, quiet_at, quiet_begun, quiet_found, quiet_held, quiet_raised, quiet_rec, quiet_replied, quiet_same, quiet_up}
 use Rattle.tier_owners.proofs.Sending.{beginning_owned, delivering_owned, sending_owned, writing_owned}
 
--- a quiet move that keeps the pair sound keeps all
-quietly : (s : System) (t : Tier) → IsHeld s → IsSound t → Quiet s.tier t → IsHeld (with_tier s t)
-quietly s t h sound quiet = record { sound = sound; owners = quiet_keeps s.tier t s.ledger h.owners quiet }
+-- the pair is sound, and each Write has its owner
+abbrev IsKept : System → Type 0
+IsKept s = IsSound s.tier × SoundOwners s.tier s.ledger
 
-pub moves_keep : MovesKeep
-moves_keep s u h (delivers m on none) = record {
-  sound = delivering s.tier m h.sound on;
-  owners = delivering_owned s.tier s.ledger m h.sound h.owners on none;
-}
-moves_keep s u h (acts_there e op r state answer o may) = record {
-  sound = delivering s.tier (BaseMsg.Write e op r) h.sound may.on;
-  owners = (acts_for s.tier s.ledger e op r state answer o h.sound h.owners may.on may.level may.acts
-      may.owned (may.epoch, may.opid, may.req)).1;
-}
-moves_keep s u h (fills m used need limit may) =
+-- a quiet move that keeps the pair sound keeps all
+quietly : (s : System) (t : Tier) → IsHeld s → IsSound t → Quiet s.tier t → IsKept (with_tier s t)
+quietly s t h sound quiet = (sound, quiet_keeps s.tier t s.ledger h.owners quiet)
+
+two_keep : (s u : System) → IsHeld s → Moves s u → IsKept u
+two_keep s u h (delivers m on none) = (
+  delivering s.tier m h.sound on,
+  delivering_owned s.tier s.ledger m h.sound h.owners on none,
+)
+two_keep s u h (acts_there e op r state answer o may) = (
+  delivering s.tier (BaseMsg.Write e op r) h.sound may.on,
+  (acts_for s.tier s.ledger e op r state answer o h.sound h.owners may.on may.level may.acts
+      may.owned (may.epoch, may.opid, may.req)).1,
+)
+two_keep s u h (fills m used need limit may) =
     quietly s (filled m used need limit s.tier) h (filling s.tier m used need limit h.sound may)
     (quiet_replied s.tier _ (λ e op answer same. absurd (cc)))
-moves_keep s u h (acts_here rec r state answer moment call line may asked free) = record {
-  sound = acting s.tier rec r state answer moment h.sound may;
-  owners = acting_owned s.tier s.ledger rec r state answer moment call line h.sound h.owners may asked free;
-}
-moves_keep s u h (gathers k call op gather ask x may) =
+two_keep s u h (acts_here rec r state answer moment call line may asked free) = (
+  acting s.tier rec r state answer moment h.sound may,
+  acting_owned s.tier s.ledger rec r state answer moment call line h.sound h.owners may asked free,
+)
+two_keep s u h (gathers k call op gather ask x may) =
     quietly s _ h (gathering s.tier k call op gather ask x h.sound may)
     (quiet_at s.tier k (Some (Flight.Promote call op (gather ++ x ∷ []) ask)) refl)
-moves_keep s u h (promotes k call op gather ask state moment may) =
+two_keep s u h (promotes k call op gather ask state moment may) =
     quietly s _ h (promoting s.tier k call op gather ask state moment h.sound may).0
     (quiet_held s.tier k (Some (record { state = state; dirty = false; mtime = moment })))
-moves_keep s u h (cleans k call op seq m blocking drain rec may) =
+two_keep s u h (cleans k call op seq m blocking drain rec may) =
     quietly s _ h (cleaning s.tier k call op seq m blocking drain rec h.sound may).0
     (quiet_held s.tier k (Some (record rec { dirty = false })))
-moves_keep s u h (drains k call op seq m blocking drain rec may) =
+two_keep s u h (drains k call op seq m blocking drain rec may) =
     quietly s _ h (cleaning s.tier k call op seq m blocking drain rec h.sound may).1
     (quiet_held s.tier k None)
-moves_keep s u h (evicts k may) =
+two_keep s u h (evicts k may) =
     quietly s _ h (evicting s.tier k h.sound may) (quiet_rec s.tier s.tier k None
     (quiet_same s.tier))
-moves_keep s u h (begins_write k driver owner op line r up may asked free) = record {
-  sound = beginning s.tier k _ h.sound up may;
-  owners = beginning_owned s.tier s.ledger k driver owner op line r h.sound h.owners may asked free;
-}
-moves_keep s u h (begins k f up may idle) =
+two_keep s u h (begins_write k driver owner op line r up may asked free) = (
+  beginning s.tier k _ h.sound up may,
+  beginning_owned s.tier s.ledger k driver owner op line r h.sound h.owners may asked free,
+)
+two_keep s u h (begins k f up may idle) =
     quietly s _ h (beginning s.tier k f h.sound up may) (quiet_begun s.tier k f idle)
-moves_keep s u h (sends_write op r driver owner line f asked) = record {
-  sound = sending s.tier (BaseMsg.Write s.tier.net.cache_epoch op r) h.sound (
+two_keep s u h (sends_write op r driver owner line f asked) = (
+  sending s.tier (BaseMsg.Write s.tier.net.cache_epoch op r) h.sound (
     refl,
     (driver, owner, f),
-  );
-  owners = writing_owned s.tier s.ledger s.tier.net.cache_epoch op r driver owner line h.sound h.owners refl f asked;
-}
-moves_keep s u h (sends m may plain) = record {
-  sound = sending s.tier m h.sound may;
-  owners = sending_owned s.tier s.ledger m h.sound h.owners may plain;
-}
-moves_keep s u h (lands k driver owner op r a may) =
+  ),
+  writing_owned s.tier s.ledger s.tier.net.cache_epoch op r driver owner line h.sound h.owners refl
+      f asked,
+)
+two_keep s u h (sends m may plain) = (
+  sending s.tier m h.sound may,
+  sending_owned s.tier s.ledger m h.sound h.owners may plain,
+)
+two_keep s u h (lands k driver owner op r a may) =
     quietly s _ h (landing s.tier k driver owner op r a h.sound may) (quiet_at s.tier k None refl)
-moves_keep s u h (loses t may) =
+two_keep s u h (loses t may) =
     quietly s t h (losing s.tier t h.sound may) ((losses_quiet s.tier h.sound).0 t may)
-moves_keep s u h stops_cache =
+two_keep s u h stops_cache =
     quietly s _ h (stopping s.tier h.sound).0 (losses_quiet s.tier h.sound).1
-moves_keep s u h stops_base =
+two_keep s u h stops_base =
     quietly s _ h (stopping s.tier h.sound).1 (losses_quiet s.tier h.sound).2
-moves_keep s u h (raises e may) =
+two_keep s u h (raises e may) =
     quietly s _ h (raising s.tier e h.sound may) (quiet_raised s.tier e h.sound may)
-moves_keep s u h (finds e may) =
+two_keep s u h (finds e may) =
     quietly s _ h (finding s.tier e h.sound may).0 (quiet_found s.tier e h.sound may)
-moves_keep s u h (counts may) = record {
-  sound = counting s.tier h.sound may;
-  owners = counting_keeps s.tier s.ledger h.sound h.owners may;
-}
-moves_keep s u h (goes_up may) = quietly s _ h (going_up s.tier h.sound may).0 (quiet_up s.tier)
-moves_keep s u h (asks call a none fresh) = record {
-  sound = h.sound;
-  owners = asking_owned s.tier s.ledger call a h.owners none;
-}
-moves_keep s u h (closes call may) = record {
-  sound = h.sound;
-  owners = closing_owned s.tier s.ledger call h.owners may;
-}
+two_keep s u h (counts may) = (
+  counting s.tier h.sound may,
+  counting_keeps s.tier s.ledger h.sound h.owners may,
+)
+two_keep s u h (goes_up may) = quietly s _ h (going_up s.tier h.sound may).0 (quiet_up s.tier)
+two_keep s u h (asks call a none fresh) = (
+  h.sound,
+  asking_owned s.tier s.ledger call a h.owners none,
+)
+two_keep s u h (closes call may) = (
+  h.sound,
+  closing_owned s.tier s.ledger call h.owners may,
+)
+
+pub moves_keep : MovesKeep
+moves_keep s u h m =
+    let kept = two_keep s u h m in
+    record { sound = kept.0; owners = kept.1; answered = answered_still s u h (effect s u m) }
 
 -- ---- runs
 

@@ -3,6 +3,8 @@ pub mod Quiets
 pub mod Sending
 pub mod Acting
 pub mod Closing
+pub mod Effects
 pub mod Keeping
 pub mod Histories
 pub mod Faithful
+pub mod Guides

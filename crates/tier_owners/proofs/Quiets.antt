@@ -1,15 +1,15 @@
 -- Moves that are quiet: they leave the base's states and the history, send nothing, and begin no
 -- write.
-use Rattle.std.proofs.Common.{◌≡◌, ◌≢◌, ◌<◌, ◌≤◌, ◌⊎◌, ℕ, ◌+◌, Bool, true, false, List, [], ◌∷◌, ◌++◌, Option, Some, None, refl, sym, ap, subst, ◌∙◌, arith, inl, inr}
+use Rattle.std.proofs.Common.{◌≡◌, ◌≢◌, ◌≤◌, ℕ, ◌+◌, false, Option, Some, None, refl, sym, ap, subst, ◌∙◌, arith, inl, inr, [], ◌∷◌, ◌++◌}
 use Rattle.obj_model.specs.declared.reply.Reply.{Reply}
 use Rattle.obj_model.specs.declared.req.Req.{Req}
 use Rattle.tier_types.specs.Flights.{is_write}
-use Rattle.tier_types.specs.Serving.{replies}
-use Rattle.tier_protocol.specs.Tiers.{Name, Flight, TierRec, BaseMsg, BaseReply, BaseActed, Phase, Net, Tier, IsIn, cell_of}
-use Rattle.tier_protocol.specs.Memory.{IsGiven}
+use Rattle.tier_types.specs.Serving.{epoch_in, opid_in, replies}
+use Rattle.tier_protocol.specs.Tiers.{Name, Flight, TierRec, BaseMsg, BaseReply, BaseActed, Phase, Tier, cell_of}
 use Rattle.tier_protocol.specs.Sound.{IsSound}
 use Rattle.tier_protocol.specs.Moves.{begun, counted_raised, epoch_found, held, raised_to, went_up, with_flight, with_net, with_rec, with_reply, with_served, MayCount, MayRaise}
 use Rattle.tier_protocol.specs.Owners.{Ledger, Quiet, SoundOwners}
+use Rattle.tier_owners.specs.QuietMoves.{CleaningIsQuiet, EvictingIsQuiet, FillingIsQuiet, GatheringIsQuiet, LandingIsQuiet, PromotingIsQuiet, RaisingIsQuiet}
 use Rattle.tier_protocol.proofs.Cells.{flight_here, flight_there, same_or_not}
 use Rattle.tier_protocol.proofs.Memory.{free_unless_up}
 use Rattle.tier_protocol.proofs.Owners.{free_not_write}
@@ -198,3 +198,31 @@ counting_keeps t l h w may = record {
   writing = λ n d owner o r f. absurd (none_writes t h (λ up. let d = may.down in absurd
       (cc)) n d owner o r f);
 }
+
+-- ---- the laws
+
+pub filling_quiet : FillingIsQuiet
+filling_quiet t m used need limit =
+    quiet_replied t (BaseReply.NoSpace (epoch_in m) (opid_in m) used need limit)
+    (λ e op answer same. absurd (cc))
+
+pub gathering_quiet : GatheringIsQuiet
+gathering_quiet t k call op gather ask x =
+    quiet_at t k (Some (Flight.Promote call op (gather ++ x ∷ []) ask)) refl
+
+pub promoting_quiet : PromotingIsQuiet
+promoting_quiet t k s moment =
+    quiet_held t k (Some (record { state = s; dirty = false; mtime = moment }))
+
+pub cleaning_quiet : CleaningIsQuiet
+cleaning_quiet t k r =
+    (quiet_held t k (Some (record r { dirty = false })), quiet_held t k None)
+
+pub evicting_quiet : EvictingIsQuiet
+evicting_quiet t k = quiet_rec t t k None (quiet_same t)
+
+pub landing_quiet : LandingIsQuiet
+landing_quiet t k = quiet_at t k None refl
+
+pub raising_quiet : RaisingIsQuiet
+raising_quiet t e h may = (quiet_raised t e h may, quiet_found t e h may)

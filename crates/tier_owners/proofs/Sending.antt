@@ -1,5 +1,5 @@
 -- Write requests begin and are sent; messages are delivered.
-use Rattle.std.proofs.Common.{◌≡◌, ◌≢◌, ◌<◌, ◌≤◌, ◌⊎◌, ℕ, ◌+◌, Bool, true, false, List, [], ◌∷◌, ◌++◌, Option, Some, None, refl, sym, ap, subst, ◌∙◌, arith, inl, inr}
+use Rattle.std.proofs.Common.{◌≡◌, ◌≢◌, ◌<◌, ◌≤◌, ◌⊎◌, ℕ, ◌+◌, Bool, true, false, ◌∷◌, Option, Some, None, refl, sym, ap, subst, ◌∙◌, arith, inl, inr}
 use Rattle.std.specs.Prelude.{if◌then◌else◌, nat_lt}
 use Rattle.std.proofs.lemmas.Bool.{ltb-true, ltb-false}
 use Rattle.obj_model.specs.declared.reply.Reply.{Reply}
@@ -11,17 +11,17 @@ use Rattle.obj_ops.specs.Acts.{act}
 use Rattle.obj_ops.specs.Stores.{state_of}
 use Rattle.tier_types.specs.Flights.{HasOpid, is_bare}
 use Rattle.tier_types.specs.Serving.{Served, put_by, replies, told_of}
-use Rattle.tier_protocol.specs.Tiers.{Name, Flight, BaseMsg, BaseReply, BaseActed, Phase, Net, Tier, Cell, IsIn, cell_of}
+use Rattle.tier_protocol.specs.Tiers.{Name, Flight, BaseMsg, BaseReply, BaseActed, Phase, Net, Tier, IsIn, cell_of}
 use Rattle.tier_protocol.specs.Memory.{IsGiven}
-use Rattle.tier_protocol.specs.Sound.{Covers, IsSound, IsSpent, is_dirty, is_past}
-use Rattle.tier_protocol.specs.Moves.{begun, delivered, sent, with_base, with_flight, with_net, with_reply, with_served, MayBegin, MaySend}
-use Rattle.tier_protocol.specs.Owners.{CallAct, HasNoAct, IsOpen, Ledger, Owned, Quiet, SoundOwners, SoundWriting}
+use Rattle.tier_protocol.specs.Sound.{IsSound, IsSpent, is_dirty, is_past}
+use Rattle.tier_protocol.specs.Moves.{begun, with_base, with_net, with_reply, with_served, MaySend}
+use Rattle.tier_protocol.specs.Owners.{IsOpen, Ledger, Owned, SoundOwners, SoundWriting}
 use Rattle.tier_protocol.proofs.Cells.{base_here, base_there, flight_here, flight_there, same_or_not}
 use Rattle.tier_protocol.proofs.Delivers.{in_epoch_by}
 use Rattle.tier_protocol.proofs.Names.{spent_then}
-use Rattle.tier_protocol.proofs.Owners.{one_req, quiet_keeps}
+use Rattle.tier_protocol.proofs.Owners.{quiet_keeps}
 use Rattle.tier_protocol.proofs.Steps.{shown}
-use Rattle.tier_owners.specs.Calls.{BeginningKeepsOwners, DeliveringKeepsOwners, SendingKeepsOwners, WritingKeepsOwners, is_write_message, with_owned}
+use Rattle.tier_owners.specs.Calls.{BeginningKeepsOwners, DeliveringKeepsOwners, SendingKeepsOwners, WritingKeepsOwners, is_write_message}
 use Rattle.tier_owners.proofs.Quiets.{quiet_fenced, quiet_replied}
 use Rattle.tier_owners.proofs.Spent.{has_act_or_not, not_longer, spent_sent}
 
@@ -70,7 +70,14 @@ beginning_owned t l k driver owner op line r h w may asked free = record {
         → SoundWriting (begun k flight t) l n v j q
     old n d v j q f =
         let x = w.writing n d v j q f in
-        record { line = x.line; asked = x.asked; pending = x.pending; acted = x.acted; own = x.own; told = x.told }
+        record {
+          line = x.line;
+          asked = x.asked;
+          pending = x.pending;
+          acted = x.acted;
+          own = x.own;
+          told = x.told;
+        }
 
     -- what begins: nothing of it was sent, and nothing replied
     as_new : SoundWriting (begun k flight t) l k owner op r
@@ -238,7 +245,14 @@ sending_owned t l m h w may plain = record {
     ]
   ];
   writing = λ n d v j q g. let x = w.writing n d v j q g in
-      record { line = x.line; asked = x.asked; pending = x.pending; acted = x.acted; own = x.own; told = x.told };
+      record {
+        line = x.line;
+        asked = x.asked;
+        pending = x.pending;
+        acted = x.acted;
+        own = x.own;
+        told = x.told;
+      };
 }
   where
     no_write : (i j : ℕ) (q : Req) → BaseMsg.Write i j q ≡ m → ⊥

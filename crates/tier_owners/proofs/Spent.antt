@@ -1,10 +1,7 @@
 -- A spent Write stays spent; whether a call has an act.
-use Rattle.std.proofs.Common.{◌≡◌, ◌≢◌, ◌<◌, ◌⊎◌, ℕ, List, [], ◌∷◌, ◌++◌, None, refl, sym, ap, subst, ◌∙◌, arith, inl, inr}
-use Rattle.obj_model.specs.declared.reply.Reply.{Reply}
+use Rattle.std.proofs.Common.{◌≡◌, ◌≢◌, ◌⊎◌, ℕ, List, [], ◌∷◌, ◌++◌, None, refl, sym, subst, inl, inr}
 use Rattle.obj_model.specs.declared.req.Req.{Req}
 use Rattle.obj_model.specs.declared.state.NameState.{NameState}
-use Rattle.obj_ops.specs.declared.request.Acted.TheVariants.{Fresh}
-use Rattle.obj_ops.specs.Acts.{act}
 use Rattle.tier_protocol.specs.Tiers.{Name, BaseMsg, Phase, Net, Tier, Cell, IsIn, cell_of}
 use Rattle.tier_protocol.specs.Sound.{Covers, IsHarmless, IsSound, IsSpent, IsWriting}
 use Rattle.tier_protocol.specs.Owners.{CallAct, HasNoAct}

@@ -1,5 +1,5 @@
 -- What calls ask, send and are answered, and that each move keeps whose act each Write will be.
-use Rattle.std.specs.Prelude.{◌≡◌, ◌≢◌, ◌≤◌, ◌<◌, ℕ, Bool, true, false, List, [], ◌∷◌, Option, Some, None, if◌then◌else◌, ◌==◌}
+use Rattle.std.specs.Prelude.{◌≡◌, ◌≢◌, ◌≤◌, ℕ, Bool, true, false, [], ◌∷◌, Option, Some, None, if◌then◌else◌, ◌==◌}
 use Rattle.obj_model.specs.declared.reply.Reply.{Reply}
 use Rattle.obj_model.specs.declared.req.Req.{Req}
 use Rattle.obj_model.specs.declared.state.NameState.{NameState}
@@ -9,7 +9,7 @@ use Rattle.tier_protocol.specs.Tiers.{Name, Flight, TierRec, BaseMsg, BaseActed,
 use Rattle.tier_protocol.specs.Sound.{IsSound, IsSpent}
 use Rattle.tier_protocol.specs.Laws.{found}
 use Rattle.tier_protocol.specs.Moves.{acted_here, begun, counted_raised, delivered, landed, sent, MayActHere, MayBegin, MayCount, MayLand, MaySend}
-use Rattle.tier_protocol.specs.Owners.{Asking, CallAct, IsOpen, Ledger, Owned, SoundOwners, with_call_act}
+use Rattle.tier_protocol.specs.Owners.{Asking, IsOpen, Ledger, Owned, SoundOwners, with_call_act}
 
 -- ---- what is written down of calls
 

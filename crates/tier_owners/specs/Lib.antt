@@ -1,3 +1,5 @@
 pub mod Calls
 pub mod Moving
 pub mod Runs
+pub mod Reaching
+pub mod QuietMoves

@@ -1,17 +1,17 @@
 -- One relation of all moves: of the pair, with what is written down of its calls.
-use Rattle.std.specs.Prelude.{◌≡◌, ◌≢◌, ◌≤◌, ◌<◌, ℕ, Bool, false, List, [], ◌∷◌, Option, Some, None}
+use Rattle.std.specs.Prelude.{◌≡◌, ℕ, Bool, false, List, [], ◌∷◌, Option, Some, None}
 use Rattle.copy_chunk.specs.declared.chunk.Chunk.{Chunk}
 use Rattle.obj_model.specs.declared.reply.Reply.{Reply}
 use Rattle.obj_model.specs.declared.req.Req.{Req}
 use Rattle.obj_model.specs.declared.state.NameState.{NameState}
 use Rattle.obj_ops.specs.declared.request.Acted.TheVariants.{Fresh}
 use Rattle.obj_ops.specs.Acts.{act}
-use Rattle.obj_ops.specs.Stores.{state_of}
+use Rattle.obj_ops.specs.Stores.{Store, state_of, store_after}
 use Rattle.tier_types.specs.Flights.{is_write}
 use Rattle.tier_protocol.specs.Tiers.{Name, Ask, Flight, TierRec, BaseMsg, BaseActed, Phase, Tier, IsIn, cell_of}
 use Rattle.tier_protocol.specs.Sound.{IsSound}
 use Rattle.tier_protocol.specs.Moves.{acted_here, begun, cleaned, counted_raised, delivered, drained, epoch_found, evicted, filled, gathered, landed, promoted, raised_to, sent, stopped_base, stopped_cache, went_up, Loses, MayActHere, MayBegin, MayClean, MayCount, MayEvict, MayFill, MayGather, MayGoUp, MayLand, MayPromote, MayRaise, MaySend}
-use Rattle.tier_protocol.specs.Owners.{Asking, IsOpen, Ledger, Owned, SoundOwners, with_call_act}
+use Rattle.tier_protocol.specs.Owners.{Asking, CallAct, IsOpen, Ledger, Owned, SoundOwners, with_call_act}
 use Rattle.tier_owners.specs.Calls.{HasAsked, MayClose, is_write_message, with_asked, with_closed, with_owned}
 
 -- the pair, and what is written down of its calls
@@ -87,8 +87,13 @@ pub data Moves (s : System) : System → Type 0 where
       → HasAsked s.ledger owner line r
       → Moves s (record {
         tier = sent (BaseMsg.Write s.tier.net.cache_epoch op r) s.tier;
-        ledger = with_owned (record { epoch = s.tier.net.cache_epoch; opid = op; req = r; call = owner; line = line })
-            s.ledger;
+        ledger = with_owned (record {
+          epoch = s.tier.net.cache_epoch;
+          opid = op;
+          req = r;
+          call = owner;
+          line = line;
+        }) s.ledger;
       })
   sends : (m : BaseMsg) → MaySend s.tier m → is_write_message m ≡ false
       → Moves s (with_tier s (sent m s.tier))
@@ -110,10 +115,18 @@ pub data Moves (s : System) : System → Type 0 where
   closes : (call : ℕ) → MayClose s.tier s.ledger call
       → Moves s (record s { ledger = with_closed call s.ledger })
 
--- what holds in every moment: the pair is sound, and each Write has its owner
+-- each act was answered as the store that those before it leave answers it
+abbrev pub AreAnswered : Store → List CallAct → Type 0
+AreAnswered store [] = Unit {0}
+AreAnswered store (a ∷ acts) =
+    ((state : NameState) × (act (state_of store a.req.name) a.req ≡ Fresh state a.reply))
+    × AreAnswered (store_after store a.req.name (act (state_of store a.req.name) a.req)) acts
+
+-- what holds in every moment: the pair is sound, each Write has its owner, and each act its answer
 pub record IsHeld (s : System) : Type 0 where
   pub sound : IsSound s.tier
   pub owners : SoundOwners s.tier s.ledger
+  pub answered : AreAnswered s.tier.opening s.ledger.acts
 
 -- a list of moves, by the moments that it passes through
 abbrev pub IsRun : System → List System → Type 0

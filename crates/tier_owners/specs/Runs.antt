@@ -1,17 +1,19 @@
 -- What holds over every run of moves.
-use Rattle.std.specs.Prelude.{◌≡◌, ◌≢◌, ◌≤◌, ◌<◌, ℕ, true, List, [], ◌∷◌, ◌++◌, map, Option, Some, None}
+use Rattle.std.specs.Prelude.{◌≡◌, ◌≤◌, ◌<◌, ℕ, true, List, ◌∷◌, ◌++◌, map, Option, Some, None}
+use Rattle.obj_model.specs.declared.reply.Reply.{Reply}
 use Rattle.obj_model.specs.declared.req.Req.{Req}
+use Rattle.obj_ops.specs.declared.request.Acted.TheVariants.{Again}
 use Rattle.obj_ops.specs.declared.reading.Looked.{Looked}
 use Rattle.obj_ops.specs.Acts.{act, look}
 use Rattle.obj_ops.specs.Stores.{Store, replay, state_of}
 use Rattle.tier_types.specs.Serving.{lasting}
 use Rattle.tier_protocol.specs.Tiers.{Name, Flight, ReadFlight, BaseMsg, BaseReply, BaseActed, TierRec, Recs, Tier, IsIn, cell_of}
-use Rattle.tier_protocol.specs.Sound.{AreFresh, IsSound}
+use Rattle.tier_protocol.specs.Sound.{AreFresh}
 use Rattle.tier_protocol.specs.Laws.{StandsFor, found}
 use Rattle.tier_protocol.specs.Moves.{MayLand, Loses, delivered, taken}
-use Rattle.tier_protocol.specs.Owners.{CallAct, HasNoAct, Ledger, SoundOwners}
+use Rattle.tier_protocol.specs.Owners.{CallAct}
 use Rattle.tier_owners.specs.Calls.{blank}
-use Rattle.tier_owners.specs.Moving.{IsHeld, IsRun, Moves, System}
+use Rattle.tier_owners.specs.Moving.{AreAnswered, IsHeld, IsRun, Moves, System}
 
 -- ---- one move, and each moment of a run
 
@@ -76,6 +78,8 @@ pub record IsFaithful (plain : Store) (s : System) : Type 0 where
   -- each act acts on the plain store that those before it left, and is its call's
   pub legal : AreFresh plain s.tier.acts
   pub calls : s.tier.acts ≡ map (λ a. a.req) s.ledger.acts
+  -- and was answered as that store answers it
+  pub answered : AreAnswered plain s.ledger.acts
   -- no request id acts twice
   pub once : IdsActOnce plain s.tier.acts
   -- a proxied read is told what the plain store tells
@@ -86,6 +90,14 @@ pub record IsFaithful (plain : Store) (s : System) : Type 0 where
   -- a proxied write is told what the plain store answers it from now on
   pub writes : (k : Name) (driver : Option ℕ) (owner op : ℕ) (r : Req) (b : BaseActed)
       → MayLand s.tier k driver owner op r b → act (state_of (now_of plain s) k) r ≡ lasting b
+  -- Where a proxied write lands and its owner has an act, this is of its request, and the answer is
+  -- the act's; where the base told that the request acted just now, the owner has an act.
+  pub landings : (k : Name) (driver : Option ℕ) (owner op : ℕ) (r : Req) (b : BaseActed)
+      → MayLand s.tier k driver owner op r b
+      → ((a : CallAct) → IsIn a s.ledger.acts → a.call ≡ owner
+      → (a.req ≡ r) × (lasting b ≡ Again a.reply))
+      × ((answer : Reply) → b ≡ BaseActed.Fresh answer
+      → (a : CallAct) × IsIn a s.ledger.acts × (a.call ≡ owner))
   -- a record has the plain store's state, so what is read from it is the plain store's too
   pub shows : (k : Name) (rec : TierRec) → (cell_of s.tier k).rec ≡ Some rec
       → rec.state ≡ state_of (now_of plain s) k

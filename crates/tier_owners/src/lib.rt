@@ -9,6 +9,8 @@
 #![tactic(auto)]
 
 mod owning;
+mod quieting;
+mod reaching;
 mod running;
 
 pub use owning::{
@@ -17,6 +19,11 @@ pub use owning::{
     landed_may_close, readers_may_close, sending_keeps_owners, unsent_may_close,
     writing_keeps_owners,
 };
+pub use quieting::{
+    beginning_is_quiet, cleaning_is_quiet, evicting_is_quiet, filling_is_quiet, gathering_is_quiet,
+    going_up_is_quiet, landing_is_quiet, promoting_is_quiet, raising_is_quiet, replying_is_quiet,
+};
+pub use reaching::{starts_run, writes_run};
 pub use running::{
     closed_act_no_more, history_grows, legal_act_once, moves_keep, runs_are_faithful, runs_keep,
     taken_is_lost,

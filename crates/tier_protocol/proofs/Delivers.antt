@@ -243,7 +243,12 @@ install_by : (t : Tier) (e op : ℕ) (k : Name) (s : NameState) → IsSound t
     → IsIn (BaseMsg.Install e op k s) t.net.wire → (b : Bool)
     → nat_lt (state_of t.base k).seq s.seq ≡ b
     → IsSound (with_served (BaseMsg.Install e op k s)
-    (record { epoch = t.net.base_epoch; put = if b then Some s else None; reply = BaseReply.Installed e op s.seq }) t)
+    (record {
+      epoch = t.net.base_epoch;
+      put = if b then Some s else None;
+      reply =
+          BaseReply.Installed e op s.seq;
+    }) t)
 install_by t e op k s h on b is = by b is
   where
     reply : BaseReply
@@ -278,7 +283,12 @@ install_by t e op k s h on b is = by b is
 
     by : (b : Bool) → nat_lt (state_of t.base k).seq s.seq ≡ b
         → IsSound (with_served (BaseMsg.Install e op k s)
-        (record { epoch = t.net.base_epoch; put = if b then Some s else None; reply = BaseReply.Installed e op s.seq }) t)
+        (record {
+          epoch = t.net.base_epoch;
+          put = if b then Some s else None;
+          reply =
+              BaseReply.Installed e op s.seq;
+        }) t)
     by false low =
         replied t reply h (h.memory.wire.sent (BaseMsg.Install e op k s) on) (h.epochs.known
         (BaseMsg.Install e op k s) on)

@@ -84,7 +84,12 @@ writes_land t call r s answer h up none free acts = (
         (refl, (Some call, call, flight))
 
     wrote : Acted → Served
-    wrote a = record { epoch = t.net.base_epoch; put = put_by a; reply = BaseReply.Wrote t.net.cache_epoch t.net.next_opid (told_of a) }
+    wrote a = record {
+      epoch = t.net.base_epoch;
+      put = put_by a;
+      reply = BaseReply.Wrote
+          t.net.cache_epoch t.net.next_opid (told_of a);
+    }
 
     on_base : act (state_of t.base r.name) r ≡ Fresh s answer
     on_base = subst (λ x. act x r ≡ Fresh s answer) (sym ((h.names r.name).clean

@@ -345,7 +345,8 @@ flight_read n f net new h wire up lets is_next = record {
     own : (m : BaseMsg) → IsSent net m → IsOwn n f net.cache_epoch m
         → IsOwn n (Some (Flight.Reads (reads_with f new))) net.cache_epoch m
     own (BaseMsg.Fence e) sent k = tt
-    own (BaseMsg.GetChunk e op x at) sent k = λ now has. let old = old_opid e op sent.counted now has in as_reads (BaseMsg.GetChunk e op x at) op old (k now old)
+    own (BaseMsg.GetChunk e op x at) sent k = λ now has. let old = old_opid e op sent.counted now
+        has in as_reads (BaseMsg.GetChunk e op x at) op old (k now old)
     own (BaseMsg.Look e op x v) sent k = λ now has.
         let old = old_opid e op sent.counted now has in
         let for : IsFor n (Some (Flight.Reads (reads_of f))) (BaseMsg.Look e op x v) = as_reads
@@ -358,8 +359,10 @@ flight_read n f net new h wire up lets is_next = record {
                     (arith, sent.counted now, same, ap (λ y. y.opid) is, is_next))
               ],
         )
-    own (BaseMsg.Write e op r) sent k = λ now has. let old = old_opid e op sent.counted now has in as_reads (BaseMsg.Write e op r) op old (k now old)
-    own (BaseMsg.Install e op x s) sent k = λ now has. let old = old_opid e op sent.counted now has in as_reads (BaseMsg.Install e op x s) op old (k now old)
+    own (BaseMsg.Write e op r) sent k = λ now has. let old = old_opid e op sent.counted now has in
+        as_reads (BaseMsg.Write e op r) op old (k now old)
+    own (BaseMsg.Install e op x s) sent k = λ now has. let old = old_opid e op sent.counted now has
+        in as_reads (BaseMsg.Install e op x s) op old (k now old)
 
 -- a promotion has gathered another chunk
 pub flight_gathered : (n : Name) (net : Net) (call op : ℕ) (gather more : List Chunk) (ask : Ask)

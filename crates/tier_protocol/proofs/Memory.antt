@@ -139,7 +139,8 @@ pub memory_left : (flights left : Flights) (net : Net) (wire : List BaseMsg)
     → SoundMemory left (record net { wire = wire; replies = replies })
 memory_left flights left net wire replies h are fewer less = record {
   wire = wire_as net new h.wire.begun h.wire.fenced h.wire.from_one (omega arith)
-      (λ e op g. record { begun = g.begun; silent = g.silent; counted = g.counted }) fewer less h.wire;
+      (λ e op g. record { begun = g.begun; silent = g.silent; counted = g.counted }) fewer less
+      h.wire;
   apart = λ n k op has have. h.apart n k op (left_opids (fin.get flights n) (fin.get left n)
       (are n) op has) (left_opids (fin.get flights k) (fin.get left k) (are k) op have);
   each = λ n. flight_as n (fin.get left n) net new (λ up. up) (omega arith) refl fewer

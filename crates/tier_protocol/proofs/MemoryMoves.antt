@@ -173,7 +173,8 @@ tells flights net (BaseMsg.Look e op k v) h may =
         (λ now have. (
           refl,
           λ r on same.
-              ap (λ x. x.vector) ((h.each k).single may.1.0 r may.1.1 f on may.1.3 (same ∙ sym may.1.4))
+              ap (λ x. x.vector) ((h.each k).single may.1.0 r may.1.1 f on may.1.3
+              (same ∙ sym may.1.4))
               ∙ may.1.5,
         ))
 tells flights net (BaseMsg.Write e op r) h may =

@@ -60,7 +60,15 @@ harmless_sent n c net m r new (inl living) = inl living
 harmless_sent n c net m r new (inr (inl stopped)) = inr (inl stopped)
 harmless_sent n c net m r new (inr (inr (inl worn))) = inr (inr (inl worn))
 harmless_sent n c net m r new (inr (inr (inr h))) =
-    inr (inr (inr (h.0, h.1, λ e op t on above. elim on [ inl same ↦ new e op t same r h.1 | inr old ↦ h.2 e op t old above ])))
+    inr (inr (inr (
+      h.0,
+      h.1,
+      λ e op t on above. elim on [
+        | inl same ↦ new e op t same r h.1
+        | inr old
+            ↦ h.2 e op t old above
+      ],
+    )))
 
 -- one more message
 pub at_sent : (n : Name) (c : Cell) (net : Net) (m : BaseMsg) → SoundAt n c net
@@ -88,7 +96,10 @@ at_sent n c net m h write install = record {
   told = h.told;
   writes = λ e op r on name above. harmless_sent n c net m r (λ i o t same q covers. subst
       (λ x. Covers x q) (sym (install i o t same)) covers)
-      (elim on [ inl same ↦ write e op r same name above | inr old ↦ h.writes e op r old name above ]);
+      (elim on [
+        | inl same ↦ write e op r same name above
+        | inr old ↦ h.writes e op r old name above
+      ]);
   installs = λ e op t on. elim on [
     | inl same ↦ let is = install e op t same in record {
       behind = omega (
@@ -316,7 +327,8 @@ at_installed n c net e op t h on above = record {
     still_true (BaseReply.Looked f o l) k = λ now list r fl is same. absurd (not_bare
         (ap is_bare fl))
     still_true (BaseReply.Wrote f o a) k = λ now d w r fl. absurd (not_bare (ap is_bare fl))
-    still_true (BaseReply.Installed f o m) k = λ now call seq b d fl. let g = k now call seq b d fl in (g.0, omega (arith, g.1, above))
+    still_true (BaseReply.Installed f o m) k = λ now call seq b d fl. let g = k now call seq b d fl
+        in (g.0, omega (arith, g.1, above))
     still_true (BaseReply.NoSpace f o used need limit) k = tt
     still_true (BaseReply.OldEpoch have got) k = tt
     still_true (BaseReply.NotFenced have got) k = tt

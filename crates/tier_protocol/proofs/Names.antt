@@ -83,7 +83,8 @@ writing_left f (Some (Flight.Write driver owner o q)) r left w = (
         (Flight.Write e v p y) → x ≡ y
     same d e w v o p x y is = cc
 writing_left f (Some (Flight.Reads list)) r left w = let e = w.3 in let g = left.1 in absurd (cc)
-writing_left f (Some (Flight.Flush call o seq b d)) r left w = let e = w.3 in let g = left.1 in absurd (cc)
+writing_left f (Some (Flight.Flush call o seq b d)) r left w = let e = w.3 in let g = left.1 in
+    absurd (cc)
 
 bare_left : (f g : Option Flight) → IsLeftOf f g → is_bare g ≡ true → is_bare f ≡ true
 bare_left f None left b = absurd (cc)

@@ -231,7 +231,12 @@ acts_for t l e op r s answer o h w on same acts mine owned = (pending, after)
       same = ap (λ x. x ++ r ∷ []) w.same ∙ sym (map_more l.acts new);
       known = w.known;
       asked = w.asked;
-      given = λ p is. let g = w.given p is in record { begun = g.begun; silent = g.silent; counted = g.counted };
+      given = λ p is. let g = w.given p is in record {
+        begun = g.begun;
+        silent = g.silent;
+        counted =
+            g.counted;
+      };
       reached = w.reached;
       acted = λ a among. elim (in_more l.acts new a among) [
         | inl before ↦ w.acted a before

@@ -203,9 +203,20 @@ going_up t h may =
 -- ---- what a pair stands for
 
 found_cell : (recs : Recs) (base plain : Store) (e f : ℕ) (n : Name)
-    → cell_of (found recs base plain e f) n ≡ record { rec = fin.get recs n; base = state_of base n; plain = state_of plain n; flight = None }
+    → cell_of (found recs base plain e f) n ≡ record {
+      rec = fin.get recs n;
+      base = state_of base n;
+      plain = state_of plain n;
+      flight = None;
+    }
 found_cell recs base plain e f n = ap {A = Option Flight} {B = Cell}
-    (λ o. record { rec = fin.get recs n; base = state_of base n; plain = state_of plain n; flight = o }) (fin.get-empty {X = Flight} name_cmp n)
+    (λ o. record {
+      rec = fin.get recs n;
+      base = state_of base n;
+      plain = state_of plain n;
+      flight =
+          o;
+    }) (fin.get-empty {X = Flight} name_cmp n)
 
 pub found_sound : FoundIsSound
 found_sound recs base plain e f h low = record {

@@ -128,7 +128,8 @@ promoting t k call op gather ask s moment h may =
 pub cleaning : CleaningKeeps
 cleaning t k call op seq m blocking drain r h may =
     let at = h.names k in
-    let told = at.told (BaseReply.Installed t.net.cache_epoch op m) may.reply refl call seq blocking drain may.flight in
+    let told = at.told (BaseReply.Installed t.net.cache_epoch op m) may.reply refl call seq blocking
+    drain may.flight in
     let is : r.state ≡ (cell_of t k).plain = shown t k r h may.rec in
     let level : (cell_of t k).base ≡ (cell_of t k).plain = at.base.level (omega
     (arith, told.0, told.1, at.base.behind, may.same, ap (λ x. x.seq) is)) in
@@ -368,7 +369,8 @@ sending t (BaseMsg.Install e op k s) h may =
 
 pub losing : LosingKeeps
 losing t u h loses = subst IsSound (sym loses.same) (record {
-  memory = memory_left t.flights u.flights t.net u.net.wire u.net.replies h.memory loses.flights loses.wire loses.replies;
+  memory = memory_left t.flights u.flights t.net u.net.wire u.net.replies h.memory loses.flights
+      loses.wire loses.replies;
   legal = h.legal;
   epochs = epochs_as t.net new h.epochs.level h.epochs.behind
       (omega arith) loses.wire loses.replies h.epochs;

@@ -35,7 +35,15 @@ doubt_keeps t m h on = record {
         wire = λ x is. is;
         replies = λ p is. inr is;
       });
-  memory = record { flights = refl; wire = refl; replies = refl; next_opid = refl; phase = refl; fenced = refl; epoch = inl refl };
+  memory = record {
+    flights = refl;
+    wire = refl;
+    replies = refl;
+    next_opid = refl;
+    phase = refl;
+    fenced = refl;
+    epoch = inl refl;
+  };
 }
 
 -- two pairs with the same work and wire
@@ -93,9 +101,16 @@ served_at_once t k call op gather ask b moment q s answer h may named acts = rec
 
 pub cache_doubt_keeps : CacheDoubtKeeps
 cache_doubt_keeps = (
-  λ t r q s answer moment h may. record { without = h; within = acting t r q s answer moment h may; memory = same_memory t (acted_here q s moment t) refl refl },
-  λ t k call op gather ask b moment h may.
-      (promotion t k call op gather ask b moment h may, λ q s answer named acts. served_at_once t k call op gather ask b moment q s answer h may named acts),
+  λ t r q s answer moment h may. record {
+    without = h;
+    within = acting t r q s answer moment h may;
+    memory = same_memory t (acted_here q s moment t) refl refl;
+  },
+  λ t k call op gather ask b moment h may. (
+    promotion t k call op gather ask b moment h may,
+    λ q s answer named acts. served_at_once t k
+        call op gather ask b moment q s answer h may named acts,
+  ),
   λ t k call op seq m blocking drain r h may.
       let left = leaving t k None h (ap is_write may.flight) in
       let ends = cleaning t k call op seq m blocking drain r h may in (
@@ -129,7 +144,15 @@ pub epoch_doubt_keeps : EpochDoubtKeeps
 epoch_doubt_keeps t e h may down = record {
   without = h;
   within = (finding t e h may).0;
-  memory = record { flights = refl; wire = refl; replies = refl; next_opid = refl; phase = down; fenced = not_fenced t h down t.net.fenced refl; epoch = inr down };
+  memory = record {
+    flights = refl;
+    wire = refl;
+    replies = refl;
+    next_opid = refl;
+    phase = down;
+    fenced = not_fenced t h down t.net.fenced refl;
+    epoch = inr down;
+  };
 }
 
 pub worlds_go_on : WorldsGoOn
@@ -137,12 +160,29 @@ worlds_go_on t u w = (
   record {
     without = (stopping t w.without).0;
     within = (stopping u w.within).0;
-    memory = record { flights = refl; wire = m.wire; replies = m.replies; next_opid = m.next_opid; phase = refl; fenced = refl; epoch = inr refl };
+    memory = record {
+      flights = refl;
+      wire = m.wire;
+      replies = m.replies;
+      next_opid = m.next_opid;
+      phase = refl;
+      fenced = refl;
+      epoch = inr refl;
+    };
   },
   record {
     without = (stopping t w.without).1;
     within = (stopping u w.within).1;
-    memory = record { flights = m.flights; wire = m.wire; replies = m.replies; next_opid = m.next_opid; phase = m.phase; fenced = refl; epoch = m.epoch };
+    memory = record {
+      flights = m.flights;
+      wire = m.wire;
+      replies = m.replies;
+      next_opid =
+          m.next_opid;
+      phase = m.phase;
+      fenced = refl;
+      epoch = m.epoch;
+    };
   },
   λ flights wire replies left fewer less. record {
     without = losing t (with_left flights wire replies t) w.without
@@ -153,7 +193,16 @@ worlds_go_on t u w = (
       wire = subst (λ x. AreIn wire x) m.wire fewer;
       replies = subst (λ x. AreIn replies x) m.replies less;
     });
-    memory = record { flights = refl; wire = refl; replies = refl; next_opid = m.next_opid; phase = m.phase; fenced = m.fenced; epoch = m.epoch };
+    memory = record {
+      flights = refl;
+      wire = refl;
+      replies = refl;
+      next_opid = m.next_opid;
+      phase =
+          m.phase;
+      fenced = m.fenced;
+      epoch = m.epoch;
+    };
   },
   λ may. ups may m.epoch,
 )
@@ -171,5 +220,14 @@ worlds_go_on t u w = (
         reply = subst (λ x. IsIn (BaseReply.Fenced u.net.cache_epoch) x) m.replies (subst (λ e. IsIn
             (BaseReply.Fenced e) t.net.replies) same may.reply);
       })).0;
-      memory = record { flights = m.flights; wire = m.wire; replies = m.replies; next_opid = m.next_opid; phase = refl; fenced = refl; epoch = inl same };
+      memory = record {
+        flights = m.flights;
+        wire = m.wire;
+        replies = m.replies;
+        next_opid =
+            m.next_opid;
+        phase = refl;
+        fenced = refl;
+        epoch = inl same;
+      };
     }

@@ -63,8 +63,8 @@ abbrev pub IsOwn : Name → Option Flight → ℕ → BaseMsg → Type 0
 IsOwn n f epoch (BaseMsg.Fence e) = Unit {0}
 IsOwn n f epoch (BaseMsg.GetChunk e op k at) =
     e ≡ epoch → HasOpid f op → IsFor n f (BaseMsg.GetChunk e op k at)
-IsOwn n f epoch (BaseMsg.Look e op k v) = e ≡ epoch → HasOpid f op
-    → IsFor n f (BaseMsg.Look e op k v)
+IsOwn n f epoch (BaseMsg.Look e op k v) =
+    e ≡ epoch → HasOpid f op → IsFor n f (BaseMsg.Look e op k v)
 IsOwn n f epoch (BaseMsg.Write e op r) = e ≡ epoch → HasOpid f op → IsFor n f (BaseMsg.Write e op r)
 IsOwn n f epoch (BaseMsg.Install e op k s) =
     e ≡ epoch → HasOpid f op → IsFor n f (BaseMsg.Install e op k s)
@@ -74,8 +74,8 @@ pub record SoundFlight (n : Name) (f : Option Flight) (net : Net) : Type 0 where
   pub up : f ≢ None → net.phase ≡ Phase.Up
   pub counted : (op : ℕ) → HasOpid f op → (0 < op) × (op < net.next_opid)
   -- a request under way, or one that a promotion will serve, is of this name
-  pub named : (driver : Option ℕ) (owner op : ℕ) (r : Req) → f ≡ Some
-      (Flight.Write driver owner op r)
+  pub named : (driver : Option ℕ) (owner op : ℕ) (r : Req)
+      → f ≡ Some (Flight.Write driver owner op r)
       → r.name ≡ n
   pub asked : (call op : ℕ) (gather : List Chunk) (ask : Ask)
       → f ≡ Some (Flight.Promote call op gather ask) → name_asked ask ≡ n

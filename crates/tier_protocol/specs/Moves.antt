@@ -189,8 +189,8 @@ MaySend t (BaseMsg.GetChunk e op k at) =
     × ((cell_of t k).flight ≡ Some (Flight.Promote call op gather ask)) × (wanted gather ≡ Some at))
 MaySend t (BaseMsg.Look e op k v) =
     (e ≡ t.net.cache_epoch)
-    × ((list : List ReadFlight) × (r : ReadFlight) × ((cell_of t k).flight ≡ Some
-    (Flight.Reads list))
+    × ((list : List ReadFlight) × (r : ReadFlight)
+    × ((cell_of t k).flight ≡ Some (Flight.Reads list))
     × IsIn r list × (r.opid ≡ op) × (r.vector ≡ v))
 MaySend t (BaseMsg.Write e op r) =
     (e ≡ t.net.cache_epoch)

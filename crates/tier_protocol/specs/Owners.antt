@@ -67,14 +67,14 @@ pub record SoundWriting (t : Tier) (l : Ledger) (n : Name) (owner op : ℕ) (r :
   pub asked : l.asks owner ≡ Some (record { line = line; req = r })
   pub pending : l.closed owner ≡ false
   -- where the owner has an act, the base answers the request again, with the act's reply
-  pub acted : (a : CallAct) → IsIn a l.acts → a.call ≡ owner → (a.req ≡ r)
-      × (act (cell_of t n).base r ≡ Again a.reply)
+  pub acted : (a : CallAct) → IsIn a l.acts → a.call ≡ owner
+      → (a.req ≡ r) × (act (cell_of t n).base r ≡ Again a.reply)
   -- what was sent under its number is of this owner
   pub own : (o : Owned) → IsIn o l.owned → o.epoch ≡ t.net.cache_epoch → o.opid ≡ op
       → o.call ≡ owner
   -- where the base told that the request acted just now, the owner has its act
-  pub told : (answer : Reply) → IsIn (BaseReply.Wrote t.net.cache_epoch op
-      (BaseActed.Fresh answer)) t.net.replies
+  pub told : (answer : Reply)
+      → IsIn (BaseReply.Wrote t.net.cache_epoch op (BaseActed.Fresh answer)) t.net.replies
       → (a : CallAct) × IsIn a l.acts × (a.call ≡ owner)
 
 pub record SoundOwners (t : Tier) (l : Ledger) : Type 0 where
@@ -82,14 +82,14 @@ pub record SoundOwners (t : Tier) (l : Ledger) : Type 0 where
   -- each Write on the wire has an owner, who asked its request
   pub known : (e op : ℕ) (r : Req) → IsIn (BaseMsg.Write e op r) t.net.wire
       → (o : Owned) × IsIn o l.owned × (o.epoch ≡ e) × (o.opid ≡ op) × (o.req ≡ r)
-  pub asked : (o : Owned) → IsIn o l.owned → l.asks o.call ≡ Some
-      (record { line = o.line; req = o.req })
+  pub asked : (o : Owned) → IsIn o l.owned
+      → l.asks o.call ≡ Some (record { line = o.line; req = o.req })
   pub given : (o : Owned) → IsIn o l.owned → IsGiven t.net o.epoch o.opid
   -- each was sent in an epoch that the base had been told of
   pub reached : (o : Owned) → IsIn o l.owned → o.epoch ≤ t.net.base_epoch
   -- each act is its call's request, and the call's one act
-  pub acted : (a : CallAct) → IsIn a l.acts → l.asks a.call ≡ Some
-      (record { line = a.line; req = a.req })
+  pub acted : (a : CallAct) → IsIn a l.acts
+      → l.asks a.call ≡ Some (record { line = a.line; req = a.req })
   pub once : AreOnce l.acts
   -- a Write on the wire that the base would take is spent, or its owner has no act and was not
   -- answered for good
@@ -114,8 +114,8 @@ ActsAreOwned =
     → IsIn (BaseMsg.Write e op r) t.net.wire → e ≡ t.net.base_epoch
     → act (state_of t.base r.name) r ≡ Fresh s answer
     → (o : Owned) × IsIn o l.owned × (o.epoch ≡ e) × (o.opid ≡ op) × (o.req ≡ r) × IsOpen l o.call
-    × SoundOwners (delivered (BaseMsg.Write e op r) t) (with_call_act
-    (record { call = o.call; line = o.line; req = r; reply = answer }) l)
+    × SoundOwners (delivered (BaseMsg.Write e op r) t)
+    (with_call_act (record { call = o.call; line = o.line; req = r; reply = answer }) l)
 
 -- A proxied write that lands: if its owner has an act, then of this request, and with the reply
 -- that the base gave; it has one where the base told that it acted just now.

@@ -68,8 +68,8 @@ IsTrueOf c epoch (BaseReply.Fenced e) = Unit {0}
 IsTrueOf c epoch (BaseReply.Chunk e op None) = Unit {0}
 IsTrueOf c epoch (BaseReply.Chunk e op (Some x)) =
     e ≡ epoch → (call : ℕ) (gather : List Chunk) (ask : Ask)
-    → c.flight ≡ Some (Flight.Promote call op gather ask) → chunk_at
-    (chunks_of c.base) x.at ≡ Some x
+    → c.flight ≡ Some (Flight.Promote call op gather ask)
+    → chunk_at (chunks_of c.base) x.at ≡ Some x
 IsTrueOf c epoch (BaseReply.Looked e op l) =
     e ≡ epoch → (list : List ReadFlight) (r : ReadFlight)
     → c.flight ≡ Some (Flight.Reads list) → IsIn r list → r.opid ≡ op → l ≡ look c.base r.vector
