@@ -28,7 +28,7 @@ use Rattle.tier_join.specs.Group.{Doubt, Memory, TwoMaps, View, ActIsNext, AreLe
 use Rattle.pool_keys.proofs.Bases.{state_one}
 use Rattle.pool_keys.specs.Keys.{epoch_key, state_key}
 use Rattle.pool_keys.specs.Maps.{SpellsBase}
-use Rattle.tier_join.specs.Promises.{as_it_is}
+use Rattle.tier_join.specs.Promises.{OneMore, as_it_is}
 use Rattle.tier_join.specs.Laws.{AnsweringPromises, FencingPromises, PuttingPromises}
 use Rattle.tier_join.specs.Steps.{HasState, HasStateFor, IsOver, Outcome, Owes, OwesMemory, act_of, after, doubt_of, no_space, sets}
 use Rattle.tier_join.proofs.Commits.{commit_promises}
@@ -65,6 +65,14 @@ module _ (start : Store) (v : View) (z : TwoMaps) (msg : BaseMsg) (s : NameState
 
 -- ---- a message that changes nothing
 
+acts_none : (msg : BaseMsg) (p : Option NameState) → p ≡ None → (acts : List Req) → acts_with msg p acts ≡ acts
+acts_none (BaseMsg.Fence e) p none acts = refl
+acts_none (BaseMsg.GetChunk e op k at) p none acts = refl
+acts_none (BaseMsg.Look e op k x) p none acts = refl
+acts_none (BaseMsg.Write e op r) None none acts = refl
+acts_none (BaseMsg.Write e op r) (Some t) none acts = absurd (cc)
+acts_none (BaseMsg.Install e op k t) p none acts = refl
+
 pub answering_promises : AnsweringPromises
 answering_promises v w msg s out none on has is put epoch rests same =
     memory_promises v w (subst (OwesMemory v) (sym same) (record {
@@ -76,6 +84,7 @@ answering_promises v w msg s out none on has is put epoch rests same =
         based = subst (SpellsBase z.base h.base) (sym epoch) h.based;
         sound = subst (λ b. IsSound (tier_of start (after (with_served msg out) v.memory) h.recs b)) (unput (name_in msg) out.put put h.base) (served_sound start v z msg s out on has is i h);
       };
+      acts = acts_none msg out.put put v.memory.acts;
       memory = served_memory v.memory msg s out on is;
     })) rests
   where
@@ -98,6 +107,13 @@ no_space_spells start m z msg result (NoSpace used need limit) on over is h = re
 }
 no_space_spells start m z msg result (Worn limit) on over is h = h
 no_space_spells start m z msg result NoMemory on over is h = h
+
+no_space_acts : (m : Memory) (msg : BaseMsg) (fault : StoreFault) → (no_space msg m fault).acts ≡ m.acts
+no_space_acts m msg Disk = refl
+no_space_acts m msg (BadImage at) = refl
+no_space_acts m msg (NoSpace used need limit) = refl
+no_space_acts m msg (Worn limit) = refl
+no_space_acts m msg NoMemory = refl
 
 -- ---- a message that puts a state
 
@@ -141,6 +157,11 @@ acts_more msg k (Some u) t e (Acts f op r is same) acts start =
     subst (λ x. replay start (acts_with x (Some u) acts) ≡ act_of x (replay start acts)) (sym is) (replay_more acts start r)
 acts_more msg k (Some u) t e (Installs f op s is) acts start =
     subst (λ x. replay start (acts_with x (Some u) acts) ≡ act_of x (replay start acts)) (sym is) refl
+
+acts_one : (msg : BaseMsg) (k : Name) (p : Option NameState) (t : NameState) → p ≡ Some t → Putting msg k → (acts : List Req) → OneMore acts (acts_with msg p acts)
+acts_one msg k None t e which acts = absurd (cc)
+acts_one msg k (Some u) t e (Acts f op r is same) acts = subst (λ x. OneMore acts (acts_with x (Some u) acts)) (sym is) (inr (r, refl))
+acts_one msg k (Some u) t e (Installs f op s is) acts = subst (λ x. OneMore acts (acts_with x (Some u) acts)) (sym is) (inl refl)
 
 module _ (v : View) (msg : BaseMsg) (k : Name) (s t : NameState) (out : Served) (bytes : List ℕ) (result : Outcome)
     (none : v.doubt ≡ None) (on : IsIn msg v.memory.net.wire) (name : name_in msg ≡ Some k) (has : HasState v k s)
@@ -214,6 +235,8 @@ module _ (v : View) (msg : BaseMsg) (k : Name) (s t : NameState) (out : Served) 
     torn = λ start z i h. torn_by start z which (subst (λ p. Spells start (record v.memory { acts = acts_with msg p v.memory.acts }) (Cs z)) put (puts_quietly start z i h));
     acts = λ start z i h. next_by start z i h which;
     epochs = epochs_by which;
+    history = acts_one msg k out.put t put which v.memory.acts;
+    kept = λ fault e. no_space_acts v.memory msg fault;
     made = served_memory v.memory msg s out on is;
     failed = λ fault e h. no_space_memory v.memory msg result fault on over e h;
   }
@@ -251,6 +274,8 @@ fencing_promises v w e bytes result none on later spelled over step =
       });
       acts = λ start z i h. tt;
       epochs = later;
+      history = inl refl;
+      kept = λ fault same. no_space_acts v.memory (BaseMsg.Fence e) fault;
       made = served_memory v.memory (BaseMsg.Fence e) unknown out on is;
       failed = λ fault same h. no_space_memory v.memory (BaseMsg.Fence e) result fault on over same h;
     })

@@ -1,5 +1,5 @@
 -- The commits of the cache.
-use Rattle.std.proofs.Common.{◌≡◌, ◌≢◌, inl, inr, ℕ, Bool, true, false, List, Option, Some, None, refl, sym, ap, subst, ◌∙◌}
+use Rattle.std.proofs.Common.{◌≡◌, ◌≢◌, inl, inr, ℕ, Bool, true, false, List, Option, Some, None, refl, sym, ap, subst, ◌∙◌, ◌++◌, [], ◌∷◌}
 use Rattle.std.specs.FinMap as fin
 use Rattle.obj_model.specs.Names.{name_fault}
 use Rattle.obj_model.specs.declared.change.Pool.TheVariants.{Cache}
@@ -70,6 +70,13 @@ unless_spells start torn kept z (NoSpace used need limit) h k = k
 unless_spells start torn kept z (Worn limit) h k = k
 unless_spells start torn kept z NoMemory h k = k
 
+unless_acts : (torn kept : Memory) (fault : StoreFault) (acts : List Req) → torn.acts ≡ acts → kept.acts ≡ acts → (unless_disk torn kept fault).acts ≡ acts
+unless_acts torn kept Disk acts h k = h
+unless_acts torn kept (BadImage at) acts h k = k
+unless_acts torn kept (NoSpace used need limit) acts h k = k
+unless_acts torn kept (Worn limit) acts h k = k
+unless_acts torn kept NoMemory acts h k = k
+
 record_at : (o : Option (List ℕ)) (r : TierRec) → IsRecOf o (Some r) → HasRecordAt r.state.seq o
 record_at None r h = absurd h
 record_at (Some bytes) r h = (r, h, refl)
@@ -79,7 +86,7 @@ record_at (Some bytes) r h = (r, h, refl)
 module _ (v : View) (k : Name) (o : Option (List ℕ)) (rec : Option TierRec) (rest : Memory) (result : Outcome)
     (none : v.doubt ≡ None) (named : name_fault k ≡ None) (spelled : IsRecOf o rec) (net : rest.net ≡ v.memory.net)
     (frees : (start : Store) (z : TwoMaps) → AreLeft v z → Spells start v.memory z → Spells start rest z)
-    (sound : IsSoundMemory v.memory → IsSoundMemory rest) where
+    (sound : IsSoundMemory v.memory → IsSoundMemory rest) (kept : rest.acts ≡ v.memory.acts) where
   -- memory is the same where it is made
   plain_owes : ((start : Store) (z : TwoMaps) → AreLeft v z → (h : Spells start v.memory z) → Moved start rest h.recs h.base k rec)
       → Owes Cache (sets (record_key k) o) rest (unless_disk rest v.memory) (Doubt.Plain Cache k) result v
@@ -90,6 +97,8 @@ module _ (v : View) (k : Name) (o : Option (List ℕ)) (rec : Option TierRec) (r
     torn = λ start z i h. inl (makes start v.memory rest z k o rec named spelled net h (moves start z i h));
     acts = λ start z i h. tt;
     epochs = tt;
+    history = inl kept;
+    kept = λ fault e. unless_acts rest v.memory fault v.memory.acts kept refl;
     made = sound;
     failed = λ fault e h. unless_sound rest v.memory fault (sound h) h;
   }
@@ -106,6 +115,8 @@ module _ (v : View) (k : Name) (o : Option (List ℕ)) (rec : Option TierRec) (r
     torn = λ start z i h. inr (shows z, makes start v.memory (with_act q rest) z k o rec named spelled net h (moves start z i h));
     acts = λ start z i h. (r.state, answer, acts start z i h, refl);
     epochs = tt;
+    history = inr (q, ap (λ a. a ++ q ∷ []) kept);
+    kept = λ fault e. unless_acts rest v.memory fault v.memory.acts kept refl;
     made = λ h. sound h;
     failed = λ fault e h. unless_sound rest v.memory fault (sound h) h;
   }
@@ -124,7 +135,7 @@ same_acts m start = refl
 pub acting_promises : ActingPromises
 acting_promises v w rec r q s answer moment o result none has may named spelled step =
     commit_promises Cache (sets (record_key q.name) o) (with_act q v.memory) (unless_disk v.memory v.memory) (Doubt.Act Cache q s.seq) result v w
-    (act_owes v q.name o (Some new) v.memory result none named spelled refl (λ start z i h. h) (λ h. h) q new answer refl refl
+    (act_owes v q.name o (Some new) v.memory result none named spelled refl (λ start z i h. h) (λ h. h) refl q new answer refl refl
     (λ start z i h. subst (λ b. act b q ≡ Fresh s answer) (shown (tier_of start v.memory h.recs h.base) q.name r h.sound (may_here start z i h).rec) may.acts)
     (λ start z i h. record {
       new = set_at h.recs q.name (Some new);
@@ -154,7 +165,7 @@ frees_name v k idle start z i h = record {
 pub promoting_promises : PromotingPromises
 promoting_promises v w k call op gather ask s moment o result none may named spelled step =
     commit_promises Cache (sets (record_key k) o) (after (with_flight k None) v.memory) (unless_disk (after (with_flight k None) v.memory) v.memory) (Doubt.Plain Cache k) result v w
-    (plain_owes v k o (Some new) (after (with_flight k None) v.memory) result none named spelled refl (frees_name v k (ap is_write may.flight)) (free_memory v.memory k)
+    (plain_owes v k o (Some new) (after (with_flight k None) v.memory) result none named spelled refl (frees_name v k (ap is_write may.flight)) (free_memory v.memory k) refl
     (λ start z i h. record {
       new = set_at h.recs k (Some new);
       is = is_with h.recs k (Some new);
@@ -168,7 +179,7 @@ promoting_promises v w k call op gather ask s moment o result none may named spe
 pub promoting_acts_promises : PromotingActsPromises
 promoting_acts_promises v w q call op gather ask b s answer moment o result none may fresh named spelled step =
     commit_promises Cache (sets (record_key k) o) (with_act q rest) (unless_disk rest v.memory) (Doubt.Act Cache q s.seq) result v w
-    (act_owes v k o (Some new) rest result none named spelled refl (frees_name v k (ap is_write may.flight)) (free_memory v.memory k) q new answer refl refl
+    (act_owes v k o (Some new) rest result none named spelled refl (frees_name v k (ap is_write may.flight)) (free_memory v.memory k) refl q new answer refl refl
     (λ start z i h. subst (λ x. act x q ≡ Fresh s answer) (promoting (tier_of start v.memory h.recs h.base) k call op gather ask b moment h.sound (there start z h)).1 fresh)
     (λ start z i h. record {
       new = fin.insert (fin.insert h.recs k clean) k new;
@@ -202,7 +213,7 @@ clean_here v rec k call op seq m blocking drain r has may start z i h =
 pub cleaning_promises : CleaningPromises
 cleaning_promises v w rec k call op seq m blocking drain r o result none has may named spelled step =
     commit_promises Cache (sets (record_key k) o) (after (with_flight k None) v.memory) (unless_disk (after (with_flight k None) v.memory) v.memory) (Doubt.Plain Cache k) result v w
-    (plain_owes v k o (Some (record r { dirty = false })) (after (with_flight k None) v.memory) result none named spelled refl (frees_name v k (ap is_write may.flight)) (free_memory v.memory k)
+    (plain_owes v k o (Some (record r { dirty = false })) (after (with_flight k None) v.memory) result none named spelled refl (frees_name v k (ap is_write may.flight)) (free_memory v.memory k) refl
     (λ start z i h. record {
       new = set_at h.recs k (Some (record r { dirty = false }));
       is = is_with h.recs k (Some (record r { dirty = false }));
@@ -213,7 +224,7 @@ cleaning_promises v w rec k call op seq m blocking drain r o result none has may
 pub draining_promises : DrainingPromises
 draining_promises v w rec k call op seq m blocking drain r result none has may named step =
     commit_promises Cache (sets (record_key k) None) (after (with_flight k None) v.memory) (unless_disk (after (with_flight k None) v.memory) v.memory) (Doubt.Plain Cache k) result v w
-    (plain_owes v k None None (after (with_flight k None) v.memory) result none named tt refl (frees_name v k (ap is_write may.flight)) (free_memory v.memory k)
+    (plain_owes v k None None (after (with_flight k None) v.memory) result none named tt refl (frees_name v k (ap is_write may.flight)) (free_memory v.memory k) refl
     (λ start z i h. record {
       new = set_at h.recs k None;
       is = is_with h.recs k None;
@@ -224,7 +235,7 @@ draining_promises v w rec k call op seq m blocking drain r result none has may n
 pub evicting_promises : EvictingPromises
 evicting_promises v w rec k result none has may named step =
     commit_promises Cache (sets (record_key k) None) v.memory (unless_disk v.memory v.memory) (Doubt.Plain Cache k) result v w
-    (plain_owes v k None None v.memory result none named tt refl (λ start z i h. h) (λ h. h)
+    (plain_owes v k None None v.memory result none named tt refl (λ start z i h. h) (λ h. h) refl
     (λ start z i h. record {
       new = set_at h.recs k None;
       is = is_with h.recs k None;
@@ -268,6 +279,8 @@ raising_promises v w e bytes result none down later above spelled step =
       });
       acts = λ start z i h. tt;
       epochs = (later, above, down);
+      history = inl refl;
+      kept = λ fault is. unless_acts v.memory v.memory fault v.memory.acts refl refl;
       made = λ h. memory_raised v.memory.flights v.memory.net e h not_up later;
       failed = λ fault is h. unless_sound v.memory v.memory fault h h;
     })

@@ -13,7 +13,7 @@ use Rattle.store_face.specs.declared.fault.StoreFault.TheVariants.{Disk, BadImag
 use Rattle.tier_protocol.proofs.Steps.{sound_stands}
 use Rattle.tier_join.specs.Group.{Doubt, Memory, TwoMaps, View, AreLeft, BeganAt, BothTell, IsRemembered, Spells, SpellsAny, SpellsDoubt, changed_in, store_in, store_now, tier_of, with_store}
 use Rattle.pool_keys.specs.Left.{AreTold, IsLeft, IsLeftSince}
-use Rattle.tier_join.specs.Promises.{AreLeftSince, Promises, StandsFor}
+use Rattle.tier_join.specs.Promises.{AreLeftSince, OneMore, Promises, StandsFor}
 use Rattle.tier_join.specs.Steps.{Commits, Outcome, Owes, doubt_after, memory_after}
 use Rattle.tier_join.proofs.Left.{FromLeft, made_left, made_since, now_since, rests_left, rests_now, rests_since, some_left, tells_on, torn_since}
 
@@ -181,12 +181,18 @@ module _ (pool : Pool) (cs : List Change) (done : Memory) (left : StoreFault →
   remembered (inr (inl h)) r = subst IsRemembered (sym (is_torn h.0)) (record { sound = owes.failed Disk h.0 r.sound; epochs = owes.epochs })
   remembered (inr (inr h)) r = subst IsRemembered (sym (is_left h.0 h.1 h.2)) (record { sound = owes.failed h.0 h.1 r.sound; epochs = tt })
 
+  history : Came cs d (store_in pool v) S result → OneMore v.memory.acts w.memory.acts
+  history (inl h) = subst (OneMore v.memory.acts) (sym (ap (λ u. u.memory.acts) (is_made h.0))) owes.history
+  history (inr (inl h)) = inl (ap (λ u. u.memory.acts) (is_torn h.0) ∙ owes.kept Disk h.0)
+  history (inr (inr h)) = inl (ap (λ u. u.memory.acts) (is_left h.0 h.1 h.2) ∙ owes.kept h.0 h.1)
+
   -- all that a step promises
   pub commit_promises : (other : Store → Store) → ((start : Store) → replay start done.acts ≡ other (store_now start v)) → Promises other v w
   commit_promises other acts =
       let h : Came cs d (store_in pool v) S result = came cs d (store_in pool v) S result step.committed in
       let on = told_in pool v S (tells h) in
       record {
+        history = history h;
         memory = remembered h;
         tell = λ told. subst BothTell (sym step.same) (on.0 told);
         told = λ told. on.1 (subst BothTell step.same told);

@@ -21,7 +21,7 @@ use Rattle.tier_join.proofs.Rests.{memory_promises, worlds_promise}
 -- ---- what rests on what was read
 
 -- a move that keeps the pair sound and leaves the pools
-module _ (v w : View) (m : Memory) (none : v.doubt ≡ None)
+module _ (v w : View) (m : Memory) (none : v.doubt ≡ None) (acts : m.acts ≡ v.memory.acts)
     (cache : m.net.cache_epoch ≡ v.memory.net.cache_epoch) (base : m.net.base_epoch ≡ v.memory.net.base_epoch) where
   moves : ((start : Store) (z : TwoMaps) → AreLeft v z → (h : Spells start v.memory z) → IsSound (tier_of start m h.recs h.base))
       → (IsSoundMemory v.memory → IsSoundMemory m) → Rests v w → w.memory ≡ m → Promises as_it_is v w
@@ -34,6 +34,7 @@ module _ (v w : View) (m : Memory) (none : v.doubt ≡ None)
       based = subst (SpellsBase z.base h.base) (sym base) h.based;
       sound = sound start z i h;
     };
+    acts = acts;
     memory = memory;
   })) rests
 
@@ -47,7 +48,7 @@ begins_here start m recs base k rec (Flight.Flush call o seq blocking drain) is 
 
 pub beginning_promises : BeginningPromises
 beginning_promises v w k f rec none has up may rests same =
-    moves v w (after (begun k f) v.memory) none refl refl
+    moves v w (after (begun k f) v.memory) none refl refl refl
     (λ start z i h. beginning (tier_of start v.memory h.recs h.base) k f h.sound up (begins_here start v.memory h.recs h.base k rec f (rec_seen start v z k rec has i h) may))
     (λ h. begun_memory v.memory k rec f h up may) rests same
 
@@ -63,13 +64,13 @@ sends_here start v z (BaseMsg.Install e op k s) rec has i h may =
 
 pub sending_promises : SendingPromises
 sending_promises v w msg rec none has may rests same =
-    moves v w (after (sent msg) v.memory) none refl refl
+    moves v w (after (sent msg) v.memory) none refl refl refl
     (λ start z i h. sending (tier_of start v.memory h.recs h.base) msg h.sound (sends_here start v z msg rec has i h may))
     (λ h. sent_memory v.memory (subject msg) rec msg h may) rests same
 
 pub gathering_promises : GatheringPromises
 gathering_promises v w k call op gather ask x none may rests same =
-    moves v w (after (gathered k call op gather ask x) v.memory) none refl refl
+    moves v w (after (gathered k call op gather ask x) v.memory) none refl refl refl
     (λ start z i h. gathering (tier_of start v.memory h.recs h.base) k call op gather ask x h.sound (record { flight = may.flight; wanted = may.wanted; reply = may.reply }))
     (λ h. protocol.gathering v.memory.flights v.memory.net k call op gather more ask h may.flight) rests same
   where
@@ -78,7 +79,7 @@ gathering_promises v w k call op gather ask x none may rests same =
 
 pub landing_promises : LandingPromises
 landing_promises v w k driver owner op r a none may rests same =
-    moves v w (after (landed k) v.memory) none refl refl
+    moves v w (after (landed k) v.memory) none refl refl refl
     (λ start z i h. landing (tier_of start v.memory h.recs h.base) k driver owner op r a h.sound (record { flight = may.flight; reply = may.reply }))
     (free_memory v.memory k) rests same
 

@@ -21,7 +21,7 @@ use Rattle.tier_join.specs.Group.{Doubt, Memory, TwoMaps, View, ActIsNext, AreLe
 use Rattle.pool_keys.specs.Keys.{epoch_key, record_key, state_key}
 use Rattle.pool_keys.specs.Left.{AreTold, IsLeftSinceBy}
 use Rattle.pool_keys.specs.Values.{IsRecOf, IsStateOf}
-use Rattle.tier_join.specs.Promises.{AreLeftSince, Promises}
+use Rattle.tier_join.specs.Promises.{AreLeftSince, OneMore, Promises}
 use Rattle.tier_join.specs.Laws.{OpeningPromises, ReopeningsAreAmong}
 use Rattle.tier_join.specs.Steps.{Has, IsAtEpoch, Opens, Settles, after, pool_of, settled, with_doubt}
 use Rattle.tier_join.proofs.Commits.{told_in}
@@ -166,6 +166,19 @@ module _ (v w : View) where
   settles_remembered r (Doubt.Epoch Base e) is (inl h) = remembers (with_epoch Base e v.memory) Base (memory_fenced v.memory.flights v.memory.net e r.sound) h.1
   settles_remembered r (Doubt.Epoch Base e) is (inr h) = remembers v.memory Base r.sound h.1
 
+  settles_history : (d : Doubt) → Settles d v w → OneMore v.memory.acts w.memory.acts
+  settles_history (Doubt.Plain pool name) h = inl (ap (λ u. u.memory.acts) h.1)
+  settles_history (Doubt.Act pool q seq) (inl h) = inr (q, ap (λ u. u.memory.acts) h.1)
+  settles_history (Doubt.Act pool q seq) (inr h) = inl (ap (λ u. u.memory.acts) h.1)
+  settles_history (Doubt.Epoch Cache e) (inl h) = inl (ap (λ u. u.memory.acts) h.1)
+  settles_history (Doubt.Epoch Cache e) (inr h) = inl (ap (λ u. u.memory.acts) h.1)
+  settles_history (Doubt.Epoch Base e) (inl h) = inl (ap (λ u. u.memory.acts) h.1)
+  settles_history (Doubt.Epoch Base e) (inr h) = inl (ap (λ u. u.memory.acts) h.1)
+
+  opened_history : (pool : Pool) → w ≡ with_store pool (store_in pool w) v → OneMore v.memory.acts w.memory.acts
+  opened_history Cache same = inl (ap (λ u. u.memory.acts) same)
+  opened_history Base same = inl (ap (λ u. u.memory.acts) same)
+
   -- where a view's stores are those
   stores_by : (pool : Pool) → w ≡ with_store pool (store_in pool w) v → (w.cache ≡ (with_store pool (store_in pool w) v).cache) × (w.base ≡ (with_store pool (store_in pool w) v).base)
   stores_by pool same = (ap (λ u. u.cache) same, ap (λ u. u.base) same)
@@ -210,6 +223,7 @@ module _ (v w : View) where
     opening =
         let on = told_in pool v (store_in pool w) (tells_on (store_in pool v) (store_in pool w) _ opens.among) in
         record {
+          history = elim opens.settles [ inl same ↦ opened_history pool same | inr d ↦ settles_history d.0 d.3 ];
           memory = remembered;
           tell = λ told. let t = on.0 told in (subst (λ s. AreTold s.moments) (sym stores.0) t.0, subst (λ s. AreTold s.moments) (sym stores.1) t.1);
           told = λ told. on.1 (subst (λ s. AreTold s.moments) stores.0 told.0, subst (λ s. AreTold s.moments) stores.1 told.1);

@@ -6,7 +6,7 @@ use Rattle.tier_protocol.specs.Tiers.{Phase}
 use Rattle.tier_protocol.proofs.Requests.{replay_more}
 use Rattle.tier_join.specs.Group.{Doubt, Memory, TwoMaps, View, ActIsNext, AreLeft, BothTell, EpochIsNext, Spells, SpellsAny, Within, store_now, with_act, with_epoch}
 use Rattle.pool_keys.specs.Left.{AreTold, IsLeftSinceBy}
-use Rattle.tier_join.specs.Promises.{AreLeftSince, Promises, StandsFor, as_it_is}
+use Rattle.tier_join.specs.Promises.{AreLeftSince, OneMore, Promises, StandsFor, as_it_is}
 use Rattle.tier_join.specs.Steps.{OwesMemory, OwesWorlds, Rests, elsewhere, with_doubt}
 use Rattle.tier_join.proofs.Commits.{stands, surely}
 use Rattle.tier_join.proofs.Left.{rests_left, rests_since}
@@ -32,6 +32,7 @@ pub memory_promises : (v w : View) → OwesMemory v w.memory → Rests v w → P
 memory_promises v w owes rests =
     let none : w.doubt ≡ None = rests.doubt ∙ owes.settled in
     record {
+      history = inl owes.acts;
       memory = λ r. record { sound = owes.memory r.sound; epochs = subst (EpochIsNext w.memory.net) (sym none) tt };
       tell = (rest_told v w rests).0;
       told = (rest_told v w rests).1;
@@ -94,6 +95,7 @@ module _ (old new : Memory) (owes : OwesWorlds old new) where
 
 pub worlds_promise : (v w : View) → OwesWorlds v.memory w.memory → Rests v w → Promises (with_doubt v.doubt) v w
 worlds_promise v w owes rests = record {
+  history = inl owes.acts;
   memory = λ r. record { sound = owes.memory r.sound; epochs = subst (EpochIsNext w.memory.net) (sym rests.doubt) (epoch_next v.memory w.memory owes v.doubt r.epochs) };
   tell = (rest_told v w rests).0;
   told = (rest_told v w rests).1;
@@ -111,8 +113,9 @@ worlds_promise v w owes rests = record {
 -- ---- steps in one
 
 -- behind a step memory alone changes
-pub then_rests : (other again : Store → Store) (v w u : View) → Promises other v w → Rests w u → Promises again w u → Promises other v u
-then_rests other again v w u first rests second = record {
+pub then_rests : (other again : Store → Store) (v w u : View) → Promises other v w → Rests w u → Promises again w u → u.memory.acts ≡ w.memory.acts → Promises other v u
+then_rests other again v w u first rests second acts = record {
+  history = subst (OneMore v.memory.acts) (sym acts) first.history;
   memory = λ r. second.memory (first.memory r);
   tell = λ t. second.tell (first.tell t);
   told = λ t. first.told (second.told t);
@@ -126,6 +129,7 @@ then_rests other again v w u first rests second = record {
 -- before a step memory alone changes, and no act comes
 pub first_rests : (other again : Store → Store) (v w u : View) → w.memory.acts ≡ v.memory.acts → Rests v w → Promises again v w → Promises other w u → Promises other v u
 first_rests other again v w u acts rests first second = record {
+  history = subst (λ a. OneMore a u.memory.acts) acts second.history;
   memory = λ r. second.memory (first.memory r);
   tell = λ t. second.tell (first.tell t);
   told = λ t. first.told (second.told t);

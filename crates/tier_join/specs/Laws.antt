@@ -65,8 +65,7 @@ WorldsPromise = (v w : View) → OwesWorlds v.memory w.memory → Rests v w
 abbrev pub StepsJoin : Type 0
 StepsJoin =
     ((other again : Store → Store) (v w u : View) → Promises other v w → Rests w u
-    → Promises again w u
-    → Promises other v u)
+    → Promises again w u → u.memory.acts ≡ w.memory.acts → Promises other v u)
     × ((other again : Store → Store) (v w u : View) → w.memory.acts ≡ v.memory.acts → Rests v w
     → Promises again v w → Promises other w u → Promises other v u)
 

@@ -1,6 +1,6 @@
 -- What a step promises: what holds goes on, and whatever a stop leaves meanwhile stands for the
 -- plain store of before, or for that with the step's act.
-use Rattle.std.specs.Prelude.{◌≤◌, ◌⊎◌, ◌<◌, ℕ}
+use Rattle.std.specs.Prelude.{◌≤◌, ◌⊎◌, ◌<◌, ℕ, List, [], ◌∷◌, ◌++◌, ◌≡◌}
 use Rattle.obj_model.specs.declared.req.Req.{Req}
 use Rattle.obj_ops.specs.Acts.{act}
 use Rattle.obj_ops.specs.Stores.{Store, state_of, store_after}
@@ -42,8 +42,14 @@ with_req q store = store_after store q.name (act (state_of store q.name) q)
 abbrev pub as_it_is : Store → Store
 as_it_is store = store
 
+-- the history is the same, or has one act more
+abbrev pub OneMore : (old new : List Req) → Type 0
+OneMore old new = (new ≡ old) ⊎ ((q : Req) × (new ≡ old ++ q ∷ []))
+
 -- What a step from old to new promises, where `other` is what its act makes of the plain store.
 pub record Promises (other : Store → Store) (old new : View) : Type 0 where
+  -- no act is forgotten, and at most one comes
+  pub history : OneMore old.memory.acts new.memory.acts
   -- what holds of memory alone
   pub memory : IsRemembered old → IsRemembered new
   -- the stores tell their maps where they did

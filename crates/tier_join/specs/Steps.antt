@@ -21,7 +21,7 @@ use Rattle.tier_join.specs.Group.{Doubt, Memory, TwoMaps, View, ActIsNext, AreLe
 use Rattle.pool_keys.specs.Keys.{epoch_key, record_key, state_key}
 use Rattle.pool_keys.specs.Left.{IsLeft}
 use Rattle.pool_keys.specs.Values.{IsEpochOf, IsRecOf, IsStateOf}
-use Rattle.tier_join.specs.Promises.{with_req}
+use Rattle.tier_join.specs.Promises.{OneMore, with_req}
 
 -- ---- what was read
 
@@ -99,6 +99,8 @@ pub record Owes (pool : Pool) (cs : List Change) (done : Memory) (left : StoreFa
   pub acts : (start : Store) (z : TwoMaps) → AreLeft old z → Spells start old.memory z
       → ActIsNext (replay start (left Disk).acts) (Some d)
   pub epochs : EpochIsNext (left Disk).net (Some d)
+  pub history : OneMore old.memory.acts done.acts
+  pub kept : (fault : StoreFault) → result ≡ Err fault → (left fault).acts ≡ old.memory.acts
   -- the same of memory alone
   pub made : IsSoundMemory old.memory → IsSoundMemory done
   pub failed : (fault : StoreFault) → result ≡ Err fault → IsSoundMemory old.memory
@@ -117,6 +119,7 @@ pub record OwesMemory (old : View) (m : Memory) : Type 0 where
   pub settled : old.doubt ≡ None
   pub moves : (start : Store) (z : TwoMaps) → AreLeft old z → Spells start old.memory z
       → Spells start m z
+  pub acts : m.acts ≡ old.memory.acts
   pub memory : IsSoundMemory old.memory → IsSoundMemory m
 
 -- the memory at other epochs and with other acts
