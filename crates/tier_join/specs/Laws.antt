@@ -1,5 +1,5 @@
 -- What is proved of the steps.
-use Rattle.std.specs.Prelude.{◌≡◌, ◌<◌, ℕ, Bool, true, false, List, [], ◌∷◌, Option, Some, None}
+use Rattle.std.specs.Prelude.{◌≡◌, ◌<◌, ℕ, Bool, true, false, List, [], ◌∷◌, ◌++◌, Option, Some, None}
 use Rattle.std.specs.FinMap as fin
 use Rattle.copy_chunk.specs.declared.chunk.Chunk.{Chunk}
 use Rattle.obj_model.specs.Names.{name_fault}
@@ -37,11 +37,13 @@ abbrev pub AreSteps : View → List View → Type 0
 AreSteps v [] = Unit {0}
 AreSteps v (w ∷ ws) = ((other : Store → Store) × Promises other v w) × AreSteps w ws
 
--- so it holds in each moment of every run of steps, and a store at which the group began stays one
+-- So it holds in each moment of every run of steps; a store at which the group began stays one, and no
+-- act of the history is forgotten or changed.
 abbrev pub RunsGoOn : Type 0
 RunsGoOn =
     (v : View) (ws : List View) → AreSteps v ws → (w : View) → IsIn w ws
     → (IsGroup v → IsGroup w) × ((start : Store) → BothTell v → BeganAt start v → BeganAt start w)
+    × ((more : List Req) × (w.memory.acts ≡ v.memory.acts ++ more))
 
 -- a commit that has at each pair of maps what it owes
 abbrev pub CommitsPromise : Type 0

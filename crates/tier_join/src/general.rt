@@ -8,7 +8,8 @@ pub fn groups_go_on()
     ensures { GroupsGoOn }
 {}
 
-/// In each moment of every run of steps the invariant holds, at a store that stays one.
+/// In each moment of every run of steps the invariant holds, at a store that stays one; and the
+/// history only grows.
 pub fn runs_go_on()
     ensures { RunsGoOn }
 {}
