@@ -1,7 +1,6 @@
 -- A guard of a pair holds of what a step sees of it.
-use Rattle.std.proofs.Common.{◌≡◌, ℕ, Bool, Option, refl, sym, ap, subst, ◌∙◌}
+use Rattle.std.proofs.Common.{◌≡◌, sym, ap, subst, ◌∙◌}
 use Rattle.std.specs.FinMap as fin
-use Rattle.obj_model.specs.declared.req.Req.{Req}
 use Rattle.obj_ops.specs.Stores.{Store}
 use Rattle.tier_protocol.specs.Tiers.{Name, BaseMsg, Flight, Recs, TierRec}
 use Rattle.tier_protocol.specs.Moves.{MayBegin, MaySend, set_at}
