@@ -1,7 +1,7 @@
 -- Numbers, bytes and names: what is taken is spelled so, and what is spelled so is taken.
-use Rattle.std.proofs.Common.{◌≡◌, ℕ, zero, suc, ◌+◌, ◌^◌, ◌<◌, ◌≤◌, Bool, true, false, cond, ltb, leb, eqb, not, List, [], ◌∷◌, ◌++◌, length, get_or, take, drop, Option, Some, None, refl, sym, ap, subst, ◌∙◌, append_assoc, arith}
+use Rattle.std.proofs.Common.{◌≡◌, ℕ, ◌^◌, ◌<◌, ◌≤◌, Bool, true, false, cond, ltb, leb, eqb, not, List, [], ◌∷◌, ◌++◌, length, take, drop, Option, Some, None, refl, sym, ap, subst, ◌∙◌, arith}
 use Rattle.std.specs.Prelude.{is_some}
-use Rattle.std.specs.Int.{w16, w32, w64, from_be_bytes, to_be_bytes}
+use Rattle.std.specs.Int.{w16, w32, w64, from_be_bytes}
 use Rattle.std.proofs.lemmas.Bool.{ltb-false, le-ltb, eqb-false}
 use Rattle.std.proofs.lemmas.List.{take_at, drop_at, take-append-drop, length-append, length-take}
 use Rattle.std.proofs.lemmas.Nat.{be_bytes_2, be_bytes_4, be_bytes_8}
@@ -12,7 +12,7 @@ use Rattle.obj_model.specs.Names.{name_fault, byte_fault, is_wrong_byte}
 use Rattle.obj_model.specs.declared.name.BadName.TheVariants.{Empty, Long}
 use Rattle.obj_model.specs.declared.name.BadName.{BadName}
 use Rattle.rec_codec.specs.Spelling.{name, string}
-use Rattle.rec_codec.specs.Reading.{Reader, ◌>>=◌, then_at, behind_at, if_at, as_at, number_at, taken_at, short_at, string_at, name_at}
+use Rattle.rec_codec.specs.Reading.{if_at, number_at, taken_at, short_at, string_at, name_at}
 use Rattle.rec_codec.proofs.Readers.{IsBytes, IsBytes-drop, IsBytes-take, unless_some, some_is, Took, IsReader, behind_reads, if_reads, also_reads}
 
 -- ---- numbers

@@ -6,4 +6,6 @@ pub mod Tables
 pub mod ReplyLaws
 pub mod StateLaws
 pub mod Whole
+pub mod Lengths
+pub mod TierLaws
 pub mod TxnLaws

@@ -1,5 +1,5 @@
 -- What a writer has put, piece by piece, is the spelling.
-use Rattle.std.proofs.Common.{◌≡◌, ℕ, ◌+◌, ◌^◌, ◌<◌, ◌≤◌, List, [], ◌∷◌, ◌++◌, map, length, take, get_or, All, None, refl, sym, ap, ap₂, ◌∙◌, append_assoc, arith}
+use Rattle.std.proofs.Common.{◌≡◌, ℕ, ◌+◌, ◌^◌, ◌<◌, ◌≤◌, List, [], ◌∷◌, ◌++◌, map, length, take, get_or, None, sym, ap, ap₂, ◌∙◌, append_assoc, arith}
 use Rattle.std.specs.List.{AllByRecursion, flat_map}
 use Rattle.std.specs.FinMap as fin
 use Rattle.std.specs.FinMap.{len-entries}
@@ -8,7 +8,6 @@ use Rattle.byteorder.specs.Endian.{big_bytes}
 use Rattle.obj_model.specs.Names.{name_fault}
 use Rattle.obj_model.specs.States.{IsTable, IsKept, IsState}
 use Rattle.obj_model.specs.declared.reply.Kept.{Kept}
-use Rattle.obj_model.specs.declared.reply.Reply.{Reply}
 use Rattle.obj_model.specs.declared.state.NameState.{NameState}
 use Rattle.std.proofs.lemmas.Map.Views.{length-le_from_below}
 use Rattle.std.proofs.lemmas.List.{length-map, take_more, append-nil}

@@ -1,6 +1,6 @@
 -- What a reader takes is spelled so, and what is spelled so is taken: for each way to put readers together.
 use Rattle.std.proofs.Common.{◌≡◌, ℕ, zero, suc, ◌+◌, ◌<◌, Bool, true, false, cond, List, [], ◌∷◌, ◌++◌, length, get_or, drop, take, Option, Some, None, refl, sym, ap, subst, ◌∙◌, append_assoc, arith, inl, inr}
-use Rattle.std.specs.List.{flat_map}
+use Rattle.std.specs.List.{AllByRecursion, flat_map}
 use Rattle.std.proofs.lemmas.Bool.{cases_lt}
 use Rattle.std.proofs.lemmas.List.{get_or-drop, get_or-take, get_or_past, length-take}
 use Rattle.std.proofs.lemmas.List.Concat.{flat_map-cons}
@@ -156,3 +156,12 @@ each_reads item key above sp L reads last n = record {
   takes = λ bytes xs rest fits e. each_takes item key above sp L reads n last bytes xs rest fits e;
   again = λ xs rest lawful. ap (λ (k : ℕ). each_at item key above last k (flat_map sp xs ++ rest)) (sym lawful.0) ∙ each_again item key above sp L reads last xs rest lawful.1;
 }
+
+-- where the keys say nothing, each is lawful and no more
+pub each_plain : {A : Type 0} (L : A → Type 0) (xs : List A) → Each L (λ _. tt {0}) (λ _ _. true) tt xs → AllByRecursion L xs
+each_plain L [] h = tt
+each_plain L (x ∷ xs) h = (h.0, each_plain L xs h.2)
+
+pub plain_each : {A : Type 0} (L : A → Type 0) (xs : List A) → AllByRecursion L xs → Each L (λ _. tt {0}) (λ _ _. true) tt xs
+plain_each L [] h = tt
+plain_each L (x ∷ xs) h = (h.0, refl, plain_each L xs h.1)

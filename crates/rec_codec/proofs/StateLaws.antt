@@ -1,33 +1,30 @@
 -- Tables, objects and states: what is taken is spelled so, and what is spelled so is taken.
-use Rattle.std.proofs.Common.{◌≡◌, ℕ, ◌+◌, ◌^◌, ◌<◌, ◌≤◌, Bool, true, false, cond, ltb, leb, eqb, ◌&&◌, List, [], ◌∷◌, ◌++◌, map, length, All, Option, Some, None, refl, sym, ap, subst, ◌∙◌, append_assoc, arith, inl, inr}
-use Rattle.std.specs.Prelude.{IfSome, IfNone}
+use Rattle.std.proofs.Common.{◌≡◌, ℕ, ◌^◌, ◌<◌, Bool, true, cond, ltb, leb, eqb, ◌&&◌, List, [], ◌∷◌, ◌++◌, map, length, Option, Some, None, refl, sym, ap, subst, ◌∙◌, arith, inl, inr}
 use Rattle.std.specs.List.{AllByRecursion, flat_map}
 use Rattle.std.specs.List.Sorted.{IsStrictlySortedBy}
 use Rattle.std.specs.Ordering.{nat_cmp, is_lt}
-use Rattle.std.specs.declared.cmp.Ordering.{Ordering}
 use Rattle.std.specs.declared.cmp.Ordering.TheVariants.{Less, Equal, Greater}
 use Rattle.std.specs.Cmp.{nat_cmp_total}
 use Rattle.std.specs.Cmp.Lexicographic.{nat_list_cmp_total}
 use Rattle.std.specs.FinMap as fin
-use Rattle.std.specs.FinMap.{len-entries}
-use Rattle.std.proofs.lemmas.Bool.{and_parts, and_from, leb-true, le-leb, ltb-true, lt-ltb, eqb-true}
-use Rattle.std.proofs.lemmas.List.{append-nil, nil_from_length, length-map}
+use Rattle.std.proofs.lemmas.Bool.{and_parts, and_from, leb-true, le-leb, lt-ltb, eqb-true}
+use Rattle.std.proofs.lemmas.List.{length-map}
 use Rattle.std.proofs.lemmas.Bool.Decides.{nat_tests}
-use Rattle.std.proofs.lemmas.List.Elements.{All-from_recursion, recursion_from_All}
+use Rattle.std.proofs.lemmas.List.Elements.{All-from_recursion}
 use Rattle.std.proofs.lemmas.Map.Views.{length-le_from_below}
 use Rattle.byteorder.specs.Endian.{big_bytes}
 use Rattle.obj_model.specs.Names.{name_cmp, name_fault}
-use Rattle.obj_model.specs.States.{IsReply, IsKept, IsTable, IsObj, IsObjOrNone, IsCounted, IsState}
+use Rattle.obj_model.specs.States.{IsKept}
 use Rattle.obj_model.specs.declared.reply.Kept.{Kept}
 use Rattle.obj_model.specs.declared.reply.Reply.{Reply}
 use Rattle.obj_model.specs.declared.state.Obj.{Obj}
 use Rattle.obj_model.specs.declared.state.NameState.{NameState}
 use Rattle.obj_model.proofs.NameMaps.{kept_entries}
-use Rattle.rec_codec.specs.Spelling.{Entry, name, string, reply, kept, pair, table, object, object_or_none, kept_list, state_bytes, IsFitReply, IsNamed, IsNamedObj, IsTyped, SpellsState}
-use Rattle.rec_codec.specs.Reading.{Reader, ◌>>=◌, then_at, behind_at, if_at, as_at, number_at, string_at, name_at, reply_at, kept_at, pair_at, pairs_at, kepts_at, table_at, kept_list_at, object_at, object_behind, object_or_none_at, state_at, whole}
-use Rattle.rec_codec.proofs.Readers.{IsBytes, some_bind, some_is, if_some, bind_is, Took, IsReader, then_reads, behind_reads, if_reads, as_reads, also_reads, Each, each_reads}
+use Rattle.rec_codec.specs.Spelling.{Entry, name, string, reply, kept, pair, table, object, object_or_none, kept_list, state_bytes, IsFitReply}
+use Rattle.rec_codec.specs.Reading.{then_at, if_at, as_at, number_at, string_at, name_at, reply_at, kept_at, pair_at, pairs_at, kepts_at, table_at, kept_list_at, object_at, object_behind, object_or_none_at, state_at}
+use Rattle.rec_codec.proofs.Readers.{IsBytes, some_bind, some_is, bind_is, Took, IsReader, then_reads, behind_reads, if_reads, as_reads, also_reads, Each, each_reads}
 use Rattle.rec_codec.proofs.BlockLaws.{byte_reads, u16_reads, u64_reads, string_reads, name_short, name_reads}
-use Rattle.rec_codec.proofs.Tables.{Rises, rises_from_each, each_from_rises, lt_less, Table, entries_rise, made_of_entries}
+use Rattle.rec_codec.proofs.Tables.{rises_from_each, each_from_rises, lt_less, Table, entries_rise, made_of_entries}
 use Rattle.rec_codec.proofs.ReplyLaws.{chosen, no_value, IsSoundReply, reply_reads}
 
 -- ---- kept requests

@@ -1,7 +1,7 @@
 -- Changes and transactions: what is taken is spelled so, and what is spelled so is taken.
-use Rattle.std.proofs.Common.{◌≡◌, ◌≢◌, ℕ, ◌^◌, ◌<◌, ◌≤◌, Bool, true, false, cond, not, ltb, leb, eqb, ◌&&◌, ◌||◌, List, [], ◌∷◌, ◌++◌, length, All, Option, Some, None, option_map, refl, sym, ap, subst, ◌∙◌, arith, inl, inr}
+use Rattle.std.proofs.Common.{◌≡◌, ◌≢◌, ℕ, ◌^◌, ◌<◌, Bool, true, false, cond, not, leb, eqb, ◌&&◌, ◌||◌, List, [], ◌∷◌, ◌++◌, length, Option, Some, None, option_map, refl, sym, ap, subst, ◌∙◌, arith, inl, inr}
 use Rattle.std.specs.Prelude.{IfSome, IfNone, bytes_eq, Decides}
-use Rattle.std.specs.List.{AllByRecursion, flat_map, list_any}
+use Rattle.std.specs.List.{AllByRecursion, flat_map}
 use Rattle.std.specs.Global.{Vec}
 use Rattle.std.proofs.lemmas.Bool.{both_ways, and_parts, and_from, leb-true, le-leb, eqb-true}
 use Rattle.std.proofs.lemmas.Slice.Eq.{bytes_eq-Decides}
@@ -12,7 +12,7 @@ use Rattle.obj_model.specs.declared.change.Change.TheVariants.{Put, Remove}
 use Rattle.obj_model.specs.Changes.{key_of, IsStoreKey, IsChange, AreApart, IsTxn}
 use Rattle.rec_codec.specs.Spelling.{string, store_key, change, txn_bytes, SpellsTxn}
 use Rattle.rec_codec.specs.Reading.{Reader, then_at, behind_at, if_at, as_at, number_at, taken_at, string_at, store_key_at, change_behind, change_at, changes_at, is_among, are_apart, txn_at, whole}
-use Rattle.rec_codec.proofs.Readers.{IsBytes, Took, IsReader, then_reads, behind_reads, if_reads, as_reads, also_reads, Each, each_reads}
+use Rattle.rec_codec.proofs.Readers.{IsBytes, IsReader, then_reads, behind_reads, if_reads, as_reads, also_reads, Each, each_reads, each_plain, plain_each}
 use Rattle.rec_codec.proofs.BlockLaws.{byte_reads, u16_reads, string_reads, taken_reads}
 use Rattle.rec_codec.proofs.ReplyLaws.{chosen, no_value}
 use Rattle.rec_codec.proofs.Whole.{whole_takes, whole_again, apart}
@@ -119,14 +119,6 @@ change_reads = also_reads (behind_at (number_at 1) change_behind) (λ c. big_byt
 
 -- ---- transactions
 
-each_plain : (cs : List Change) → Each IsSoundChange (λ _. tt {0}) (λ _ _. true) tt cs → AllByRecursion IsSoundChange cs
-each_plain [] h = tt
-each_plain (c ∷ cs) h = (h.0, each_plain cs h.2)
-
-plain_each : (cs : List Change) → AllByRecursion IsSoundChange cs → Each IsSoundChange (λ _. tt {0}) (λ _ _. true) tt cs
-plain_each [] h = tt
-plain_each (c ∷ cs) h = (h.0, refl, plain_each cs h.1)
-
 abbrev fits_count : ℕ → Bool
 fits_count n = leb 1 n && leb n 8
 
@@ -143,8 +135,8 @@ unfolding txn_at
 txn_reads = behind_reads (if_at (number_at 1) fits_count) (λ n. if_at (changes_at n) are_apart) length (big_bytes 1) (flat_map change) (λ n. (n < 256 ^ 1) × (fits_count n ≡ true)) IsSoundTxn
     (if_reads (number_at 1) fits_count (big_bytes 1) (λ n. n < 256 ^ 1) byte_reads) (λ cs h. h.0)
     (λ n h. also_reads (if_at (changes_at n) are_apart) (flat_map change) (flat_map change) (λ cs. ((length cs ≡ n) × Each IsSoundChange (λ _. tt {0}) (λ _ _. true) tt cs) × (are_apart cs ≡ true)) (λ cs. (length cs ≡ n) × IsSoundTxn cs) (counted_reads n) (λ cs. refl)
-    (λ cs k. (k.0.0, (subst (λ (m : ℕ). (m < 256 ^ 1) × (fits_count m ≡ true)) (sym k.0.0) h, (each_plain cs k.0.1, k.1))))
-    (λ cs k. ((k.0, plain_each cs k.1.1.0), k.1.1.1)))
+    (λ cs k. (k.0.0, (subst (λ (m : ℕ). (m < 256 ^ 1) × (fits_count m ≡ true)) (sym k.0.0) h, (each_plain IsSoundChange cs k.0.1, k.1))))
+    (λ cs k. ((k.0, plain_each IsSoundChange cs k.1.1.0), k.1.1.1)))
 
 -- ---- what is within its limits is lawful
 

@@ -1,5 +1,5 @@
 -- What is read from all of the bytes is spelled so, and what all of the bytes spell is read.
-use Rattle.std.proofs.Common.{◌≡◌, ℕ, ◌^◌, ◌<◌, ◌≤◌, Bool, true, false, cond, leb, eqb, ◌&&◌, List, [], ◌∷◌, ◌++◌, map, length, All, Option, Some, None, refl, sym, ap, subst, ◌∙◌, arith}
+use Rattle.std.proofs.Common.{◌≡◌, ℕ, ◌^◌, ◌≤◌, cond, leb, eqb, List, [], ◌∷◌, ◌++◌, map, length, Option, Some, None, sym, ap, subst, ◌∙◌, arith}
 use Rattle.std.specs.Prelude.{IfSome, IfNone}
 use Rattle.std.specs.List.{AllByRecursion}
 use Rattle.std.specs.FinMap as fin
@@ -8,15 +8,15 @@ use Rattle.std.proofs.lemmas.Bool.{and_parts, and_from, leb-true, le-leb, eqb-tr
 use Rattle.std.proofs.lemmas.List.{append-nil, nil_from_length}
 use Rattle.std.proofs.lemmas.List.Elements.{All-from_recursion, recursion_from_All}
 use Rattle.obj_model.specs.Names.{name_fault}
-use Rattle.obj_model.specs.States.{IsKept, IsTable, IsObj, IsObjOrNone, IsCounted, IsState}
+use Rattle.obj_model.specs.States.{IsKept, IsTable, IsObjOrNone, IsState}
 use Rattle.obj_model.specs.declared.reply.Kept.{Kept}
 use Rattle.obj_model.specs.declared.state.Obj.{Obj}
 use Rattle.obj_model.specs.declared.state.NameState.{NameState}
 use Rattle.rec_codec.specs.Spelling.{Entry, state_bytes, IsFitReply, IsNamed, IsNamedObj, IsTyped, SpellsState}
-use Rattle.rec_codec.specs.Reading.{Reader, ◌>>=◌, state_at, whole}
-use Rattle.rec_codec.proofs.Readers.{IsBytes, some_bind, some_is, if_some, bind_is, Took, IsReader}
+use Rattle.rec_codec.specs.Reading.{Reader, state_at, whole}
+use Rattle.rec_codec.proofs.Readers.{IsBytes, some_bind, some_is, if_some, bind_is, IsReader}
 use Rattle.rec_codec.proofs.Tables.{Table}
-use Rattle.rec_codec.proofs.StateLaws.{IsSoundKept, IsSoundList, IsSoundPair, IsSoundTable, IsSoundObj, IsSoundOption, IsSound, state_reads}
+use Rattle.rec_codec.proofs.StateLaws.{IsSoundKept, IsSoundPair, IsSoundTable, IsSoundOption, IsSound, state_reads}
 
 -- ---- all of the bytes
 
@@ -89,7 +89,7 @@ each_sound : (ks : List Kept) → AllByRecursion IsKept ks → AllByRecursion (�
 each_sound [] p q = tt
 each_sound (k ∷ ks) p q = ((p.0, q.0), each_sound ks p.1 q.1)
 
-state_lawful : (s : NameState) → IsSound s → IsState s × IsTyped s
+pub state_lawful : (s : NameState) → IsSound s → IsState s × IsTyped s
 state_lawful s h =
     let counts = and_parts (leb s.ver s.seq) (leb s.seq (2 ^ 62)) h.1.0.1 in
     let o = object_lawful s.obj h.1.1.0 in (

@@ -1,5 +1,5 @@
 -- Reading from left to right: a value and the bytes after it, or nothing.
-use Rattle.std.specs.Prelude.{◌≡◌, ◌≤◌, ℕ, zero, suc, ◌^◌, Bool, true, false, not, List, [], ◌∷◌, length, take, drop, Option, Some, None, Result, Ok, Err, nat_lt, nat_le, is_some, bytes_eq, ◌==◌, ◌&&◌, if◌then◌else◌}
+use Rattle.std.specs.Prelude.{◌≡◌, ℕ, zero, suc, ◌^◌, Bool, true, not, List, [], ◌∷◌, length, take, drop, Option, Some, None, Result, Ok, Err, nat_lt, nat_le, is_some, bytes_eq, ◌==◌, ◌&&◌, if◌then◌else◌}
 use Rattle.std.specs.List.{list_any}
 use Rattle.std.specs.Ordering.{is_lt}
 use Rattle.std.specs.FinMap as fin
@@ -153,6 +153,17 @@ object_or_none_at = behind_at (number_at 1) object_behind
 -- a state
 unfoldable pub state_at : Reader NameState
 state_at = as_at (then_at (number_at 8) (λ ver. then_at (if_at (number_at 8) (λ seq. nat_le ver seq && nat_le seq (2 ^ 62))) (λ _. then_at object_or_none_at (λ _. kept_list_at)))) (λ s. record { ver = s.0; seq = s.1.0; obj = s.1.1.0; seen = s.1.1.1 })
+
+-- ---- records of the cache
+
+-- the mark of a record
+unfoldable pub mark_at : Reader Bool
+mark_at = as_at (if_at (number_at 1) (λ n. nat_le n 1)) (λ n. n == 1)
+
+-- a record
+unfoldable pub tier_at : Reader (NameState × Bool × ℕ)
+tier_at =
+    as_at (then_at state_at (λ _. then_at mark_at (λ _. number_at 8))) (λ r. (r.0, r.1.0, r.1.1))
 
 -- ---- transactions
 

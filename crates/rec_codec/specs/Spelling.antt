@@ -1,10 +1,13 @@
 -- How records are spelled as bytes, and which values have a spelling. Numbers stand with their highest byte first.
-use Rattle.std.specs.Prelude.{◌≡◌, ◌<◌, ℕ, ◌^◌, List, [], ◌∷◌, ◌++◌, map, Option, Some, None, length, All}
-use Rattle.std.specs.List.{flat_map}
+use Rattle.std.specs.Prelude.{◌≡◌, ◌<◌, ◌≤◌, ℕ, ◌^◌, Bool, true, false, List, [], ◌∷◌, ◌++◌, map, Option, Some, None, length, All}
+use Rattle.std.specs.List.{flat_map, AllByRecursion}
 use Rattle.std.specs.FinMap as fin
 use Rattle.byteorder.specs.Endian.{big_bytes}
 use Rattle.obj_model.specs.Names.{name_cmp, name_fault}
+use Rattle.obj_model.specs.Limits.{number_limit}
 use Rattle.obj_model.specs.States.{IsState}
+use Rattle.obj_model.specs.Fields.{Field, Number, Bytes, Key, After, fields}
+use Rattle.obj_model.specs.Vectors.{vector_fault}
 use Rattle.obj_model.specs.Changes.{IsTxn}
 use Rattle.obj_model.specs.declared.change.Change.{Change}
 use Rattle.obj_model.specs.declared.change.Change.TheVariants.{Put, Remove}
@@ -13,6 +16,9 @@ use Rattle.obj_model.specs.declared.reply.Why.TheVariants.{Exists, NoEnt, NoData
 use Rattle.obj_model.specs.declared.reply.Reply.{Reply}
 use Rattle.obj_model.specs.declared.reply.Reply.TheVariants.{Done, Refused}
 use Rattle.obj_model.specs.declared.reply.Kept.{Kept}
+use Rattle.obj_model.specs.declared.req.Req.{Req}
+use Rattle.obj_model.specs.declared.sub_op.SubOp.{SubOp}
+use Rattle.obj_model.specs.declared.sub_op.SubOp.TheVariants as op
 use Rattle.obj_model.specs.declared.state.Obj.{Obj}
 use Rattle.obj_model.specs.declared.state.NameState.{NameState}
 
@@ -112,6 +118,99 @@ pub record SpellsState (bytes : List ℕ) (s : NameState) : Type 0 where
   pub lawful : IsState s
   pub typed : IsTyped s
   pub spelled : bytes ≡ state_bytes s
+
+-- ---- records of the cache
+
+-- whether a record is dirty
+abbrev pub mark : Bool → ℕ
+mark false = 0
+mark true = 1
+
+-- the spelling of a record: the state, its mark, and the moment of its last change
+abbrev pub tier_bytes : NameState → Bool → ℕ → List ℕ
+tier_bytes s dirty mtime = state_bytes s ++ (mark dirty ∷ big_bytes 8 mtime)
+
+-- the bytes, all of them, spell the record
+pub record SpellsTier (bytes : List ℕ) (s : NameState) (dirty : Bool) (mtime : ℕ) : Type 0 where
+  pub lawful : IsState s
+  pub typed : IsTyped s
+  pub timed : mtime < 2 ^ 64
+  pub spelled : bytes ≡ tier_bytes s dirty mtime
+
+-- ---- requests
+
+-- the tag of a sub-operation
+abbrev pub tag : SubOp → ℕ
+tag op.Create = 1
+tag (op.WriteFull bytes) = 2
+tag (op.Write off bytes) = 3
+tag (op.Append bytes) = 4
+tag (op.Zero off len) = 5
+tag (op.Truncate size) = 6
+tag op.Remove = 7
+tag (op.SetXattr key bytes) = 8
+tag (op.RmXattr key) = 9
+tag (op.OmapSet key bytes) = 10
+tag (op.OmapRm key) = 11
+tag op.OmapClear = 12
+tag op.AssertExists = 13
+tag (op.AssertVer ver) = 14
+tag (op.CmpXattr key bytes) = 15
+tag (op.Read off len) = 16
+tag op.Stat = 17
+tag (op.GetXattr key) = 18
+tag op.ListXattrs = 19
+tag (op.OmapGet key) = 20
+tag (op.OmapList after max) = 21
+
+-- a field: a number of eight bytes, bytes, a name, or 0 for no name and 1 before one
+abbrev pub field : Field → List ℕ
+field (Number n) = big_bytes 8 n
+field (Bytes bytes) = string bytes
+field (Key key) = name key
+field (After None) = 0 ∷ []
+field (After (Some key)) = 1 ∷ name key
+
+-- fields, one behind the other
+abbrev pub field_bytes : List Field → List ℕ
+field_bytes [] = []
+field_bytes (f ∷ []) = field f
+field_bytes (f ∷ g ∷ more) = field f ++ field_bytes (g ∷ more)
+
+-- a sub-operation: its tag and its fields
+abbrev pub sub_op : SubOp → List ℕ
+sub_op o = tag o ∷ field_bytes (fields o)
+
+-- the spelling of a request: who asks, the name, the number of its sub-operations, and these
+abbrev pub req_bytes : Req → List ℕ
+req_bytes r =
+    big_bytes 2 r.client ++ (big_bytes 8 r.tid ++ (name r.name ++ (big_bytes 1 (length r.vector) ++ flat_map sub_op r.vector)))
+
+-- a client and a request number within their limits
+pub record IsReq (r : Req) : Type 0 where
+  pub client_low : 1 ≤ r.client
+  pub client_high : r.client ≤ 256
+  pub tid_high : r.tid ≤ number_limit
+
+-- what a field carries is of its type: numbers have 64 bits, keys are names
+abbrev pub IsField : Field → Type 0
+IsField (Number n) = n < 2 ^ 64
+IsField (Bytes bytes) = length bytes ≤ 16777216
+IsField (Key key) = name_fault key ≡ None
+IsField (After None) = Unit {0}
+IsField (After (Some key)) = name_fault key ≡ None
+
+-- the fields of a sub-operation are of their types
+abbrev pub IsFit : SubOp → Type 0
+IsFit o = AllByRecursion IsField (fields o)
+
+-- the bytes, all of them, spell the request, whose sub-operations are a vector
+pub record SpellsReq (bytes : List ℕ) (r : Req) : Type 0 where
+  pub lawful : IsReq r
+  pub named : name_fault r.name ≡ None
+  pub vector : vector_fault r.vector ≡ None
+  pub fit : All IsFit r.vector
+  pub spelled : bytes ≡ req_bytes r
 
 -- ---- transactions
 

@@ -1,4 +1,5 @@
-//! The blocks of records: numbers, bytes and names.
+//! The blocks of records as they are read: numbers, bytes and names. Each stands at the front, and the bytes after it
+//! are given with it.
 //!
 //! A length is compared with what is left before memory is taken.
 ghost use Rattle.std.specs.Prelude.{◌≡◌, IfOk};
@@ -10,7 +11,7 @@ use obj_model::{Bytes, Name};
 use std::alloc::Global;
 
 /// A byte at the front, and the bytes after it.
-pub(crate) fn u8_at(bytes: &[u8]) -> Result<(u8, &[u8]), ReadError>
+pub fn u8_at(bytes: &[u8]) -> Result<(u8, &[u8]), ReadError>
     ensures { Gives (λ x. (x.0, x.1.now)) result (number_at 1 bytes.now) }
 {
     match bytes {
@@ -20,7 +21,7 @@ pub(crate) fn u8_at(bytes: &[u8]) -> Result<(u8, &[u8]), ReadError>
 }
 
 /// A number of two bytes at the front, and the bytes after it.
-pub(crate) fn u16_at(bytes: &[u8]) -> Result<(u16, &[u8]), ReadError>
+pub fn u16_at(bytes: &[u8]) -> Result<(u16, &[u8]), ReadError>
     ensures { Gives (λ x. (x.0, x.1.now)) result (number_at 2 bytes.now) }
 {
     if bytes.len() < 2 {
@@ -30,7 +31,7 @@ pub(crate) fn u16_at(bytes: &[u8]) -> Result<(u16, &[u8]), ReadError>
 }
 
 /// A number of four bytes at the front, and the bytes after it.
-pub(crate) fn u32_at(bytes: &[u8]) -> Result<(u32, &[u8]), ReadError>
+pub fn u32_at(bytes: &[u8]) -> Result<(u32, &[u8]), ReadError>
     ensures { Gives (λ x. (x.0, x.1.now)) result (number_at 4 bytes.now) }
 {
     if bytes.len() < 4 {
@@ -40,7 +41,7 @@ pub(crate) fn u32_at(bytes: &[u8]) -> Result<(u32, &[u8]), ReadError>
 }
 
 /// A number of eight bytes at the front, and the bytes after it.
-pub(crate) fn u64_at(bytes: &[u8]) -> Result<(u64, &[u8]), ReadError>
+pub fn u64_at(bytes: &[u8]) -> Result<(u64, &[u8]), ReadError>
     ensures { Gives (λ x. (x.0, x.1.now)) result (number_at 8 bytes.now) }
 {
     if bytes.len() < 8 {
@@ -50,7 +51,7 @@ pub(crate) fn u64_at(bytes: &[u8]) -> Result<(u64, &[u8]), ReadError>
 }
 
 /// So many bytes at the front, and the bytes after them.
-pub(crate) fn taken_at(bytes: &[u8], len: usize) -> Result<(&[u8], &[u8]), ReadError>
+pub fn taken_at(bytes: &[u8], len: usize) -> Result<(&[u8], &[u8]), ReadError>
     ensures { Gives (λ x. (x.0.now, x.1.now)) result (taken_at len bytes.now) }
 {
     if bytes.len() < len {
@@ -61,7 +62,7 @@ pub(crate) fn taken_at(bytes: &[u8], len: usize) -> Result<(&[u8], &[u8]), ReadE
 
 /// The bytes behind a length of one byte.
 #[tactic(auto, unfolding(crate::specs::Reading::short_at))]
-pub(crate) fn short_at(bytes: &[u8]) -> Result<(&[u8], &[u8]), ReadError>
+pub fn short_at(bytes: &[u8]) -> Result<(&[u8], &[u8]), ReadError>
     ensures { Gives (λ x. (x.0.now, x.1.now)) result (short_at bytes.now) }
 {
     let (len, rest) = u8_at(bytes)?;
@@ -70,7 +71,7 @@ pub(crate) fn short_at(bytes: &[u8]) -> Result<(&[u8], &[u8]), ReadError>
 
 /// At most so many bytes behind a length of four bytes.
 #[tactic(auto, unfolding(crate::specs::Reading::string_at))]
-pub(crate) fn slice_at(bytes: &[u8], most: u32) -> Result<(&[u8], &[u8]), ReadError>
+pub fn slice_at(bytes: &[u8], most: u32) -> Result<(&[u8], &[u8]), ReadError>
     ensures { Gives (λ x. (x.0.now, x.1.now)) result (string_at most bytes.now) }
 {
     let (len, rest) = u32_at(bytes)?;
@@ -81,7 +82,7 @@ pub(crate) fn slice_at(bytes: &[u8], most: u32) -> Result<(&[u8], &[u8]), ReadEr
 }
 
 /// A copy of at most so many bytes behind a length of four bytes.
-pub(crate) fn bytes_at(alloc: Global, bytes: &[u8], most: u32) -> Result<(Bytes, &[u8]), ReadError>
+pub fn bytes_at(alloc: Global, bytes: &[u8], most: u32) -> Result<(Bytes, &[u8]), ReadError>
     ensures { Gives (λ x. (x.0, x.1.now)) result (string_at most bytes.now) }
 {
     let (text, rest) = slice_at(bytes, most)?;
@@ -90,7 +91,7 @@ pub(crate) fn bytes_at(alloc: Global, bytes: &[u8], most: u32) -> Result<(Bytes,
 
 /// A name at the front, behind its bytes where they stand.
 #[tactic(auto, unfolding(crate::specs::Reading::name_at))]
-pub(crate) fn name_at(alloc: Global, bytes: &[u8]) -> Result<(&[u8], Name, &[u8]), ReadError>
+pub fn name_at(alloc: Global, bytes: &[u8]) -> Result<(&[u8], Name, &[u8]), ReadError>
     ensures given { Gives (λ x. (x.1, x.2.now)) result (name_at bytes.now) }
     ensures text { IfOk result (λ x. x.0.now ≡ x.1) }
 {

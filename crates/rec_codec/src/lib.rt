@@ -1,19 +1,23 @@
-//! The one spelling of states and transactions as bytes.
+//! The one spelling of states, records of the cache and transactions as bytes.
 //!
 //! A writer gives the spelling of its value, and a reader gives the value that the bytes, all of them, spell.
 #![tactic(auto)]
 
-mod blocks;
+pub mod blocks;
 mod fault;
 mod laws;
+pub mod put;
 mod reading;
 mod replies;
 #[cfg(test)]
 mod tests;
+mod tier;
 mod txn;
 mod writing;
 
-pub use laws::{state_spellings, txn_spellings};
+pub use fault::ReadError;
+pub use laws::{state_spellings, tier_spellings, txn_spellings};
 pub use reading::read_state;
+pub use tier::{read_tier, write_tier};
 pub use txn::{read_txn, write_txn};
 pub use writing::write_state;

@@ -7,7 +7,7 @@ ghost use Rattle.rec_codec.specs.Reading.{Gives, store_key_at, change_at, change
 
 use crate::blocks::{bytes_at, taken_at, u8_at, u16_at};
 use crate::fault::ReadError;
-use crate::writing::{put_string, put_u16};
+use crate::put::{put_string, put_u16};
 use obj_model::{Bytes, Change, NoMemory};
 use std::alloc::{AllocError, Global};
 

@@ -1,56 +1,13 @@
 //! States as they are written: the length first, and then one buffer that is filled.
-ghost use Rattle.std.specs.Prelude.{◌≡◌, ◌<◌, ◌^◌, ◌++◌, All, IfOk, OnOk, length, None};
+ghost use Rattle.std.specs.Prelude.{◌≡◌, ◌<◌, ◌≤◌, ◌^◌, ◌++◌, All, IfOk, OnOk, length, None};
 ghost use Rattle.byteorder.specs.Endian.{big_bytes};
 ghost use Rattle.obj_model.specs.Names.{name_fault};
 ghost use Rattle.obj_model.specs.States.{IsTable, IsObjOrNone, IsState};
 ghost use Rattle.rec_codec.specs.Spelling.{name, string, why, reply, kept, kept_list, table, object_or_none, state_bytes, IsFitWhy, IsFitReply, IsNamed, IsNamedObj, IsTyped, SpellsState};
 
-use byteorder::{BigEndian, ByteOrder};
-use obj_model::{Kept, Name, NameState, NoMemory, Obj, PairMap, Reply, Why};
+use crate::put::{put_name, put_string, put_u16, put_u64};
+use obj_model::{Kept, NameState, NoMemory, Obj, PairMap, Reply, Why};
 use std::alloc::{AllocError, Global};
-
-pub(crate) fn put_u16(out: &mut Vec<u8>, number: u16) -> Result<(), AllocError>
-    ensures { OnOk result (out.new.items ≡ out.old.items ++ big_bytes 2 number) }
-{
-    let mut bytes = [0u8; 2];
-    BigEndian::write_u16(&mut bytes, number);
-    out.extend_from_slice(&bytes)
-}
-
-fn put_u32(out: &mut Vec<u8>, number: u32) -> Result<(), AllocError>
-    ensures { OnOk result (out.new.items ≡ out.old.items ++ big_bytes 4 number) }
-{
-    let mut bytes = [0u8; 4];
-    BigEndian::write_u32(&mut bytes, number);
-    out.extend_from_slice(&bytes)
-}
-
-fn put_u64(out: &mut Vec<u8>, number: u64) -> Result<(), AllocError>
-    ensures { OnOk result (out.new.items ≡ out.old.items ++ big_bytes 8 number) }
-{
-    let mut bytes = [0u8; 8];
-    BigEndian::write_u64(&mut bytes, number);
-    out.extend_from_slice(&bytes)
-}
-
-// A name behind its length.
-fn put_name(out: &mut Vec<u8>, text: &Name) -> Result<(), AllocError>
-    ensures put { OnOk result (out.new.items ≡ out.old.items ++ name text.now) }
-    ensures lawful { name_fault text.now ≡ None }
-{
-    let bytes = text.bytes();
-    out.push(bytes.len() as u8)?;
-    out.extend_from_slice(bytes)
-}
-
-// Bytes behind their length.
-pub(crate) fn put_string(out: &mut Vec<u8>, bytes: &[u8]) -> Result<(), AllocError>
-    requires { length bytes.now < 2 ^ 32 }
-    ensures { OnOk result (out.new.items ≡ out.old.items ++ string bytes.now) }
-{
-    put_u32(out, bytes.len() as u32)?;
-    out.extend_from_slice(bytes)
-}
 
 fn put_why(out: &mut Vec<u8>, reason: Why) -> Result<(), AllocError>
     ensures put { OnOk result (out.new.items ≡ out.old.items ++ why reason) }
@@ -144,8 +101,8 @@ fn put_object(out: &mut Vec<u8>, obj: &Option<Obj>) -> Result<(), AllocError>
     Ok(())
 }
 
-// The spelling, put behind what is there.
-fn put_state(out: &mut Vec<u8>, state: &NameState) -> Result<(), AllocError>
+/// The spelling, put behind what is there.
+pub(crate) fn put_state(out: &mut Vec<u8>, state: &NameState) -> Result<(), AllocError>
     requires { IsState state.now }
     ensures put { OnOk result (out.new.items ≡ out.old.items ++ state_bytes state.now) }
     ensures typed { OnOk result (IsTyped state.now) }
@@ -157,14 +114,24 @@ fn put_state(out: &mut Vec<u8>, state: &NameState) -> Result<(), AllocError>
     Ok(())
 }
 
-/// The one spelling of a state that is within its limits.
-pub fn write_state(alloc: Global, state: &NameState) -> Result<Vec<u8>, NoMemory>
+// The spelling alone.
+fn state_spelled(alloc: Global, state: &NameState) -> Result<Vec<u8>, NoMemory>
     requires { IsState state.now }
     ensures { IfOk result (λ bytes. SpellsState bytes.items state.now) }
 {
     let mut out = Vec::with_capacity(alloc, state_len(state))?;
     put_state(&mut out, state)?;
     Ok(out)
+}
+
+/// The one spelling of a state that is within its limits: at most 16,777,216 bytes, as a value of a
+/// store may have.
+pub fn write_state(alloc: Global, state: &NameState) -> Result<Vec<u8>, NoMemory>
+    requires { IsState state.now }
+    ensures spelled { IfOk result (λ bytes. SpellsState bytes.items state.now) }
+    ensures short { IfOk result (λ bytes. length bytes.items ≤ 16777216) }
+{
+    state_spelled(alloc, state)
 }
 
 // The bytes of a table in a spelling.
@@ -177,8 +144,8 @@ fn table_len(pairs: &PairMap) -> usize {
     total
 }
 
-// The bytes of a state's spelling, where no kept request was refused for its size.
-fn state_len(state: &NameState) -> usize {
+/// The bytes of a state's spelling, where no kept request was refused for its size.
+pub(crate) fn state_len(state: &NameState) -> usize {
     let mut total = 19usize.saturating_add(state.seen.as_slice().len().saturating_mul(28));
     if let Some(obj) = &state.obj {
         total = total.saturating_add(4);

@@ -1,4 +1,4 @@
-use Rattle.std.proofs.Common.{◌≡◌, ℕ, List, Some, ltb, lt-ltb, le-ltb, sym, ap, ◌∙◌, arith}
+use Rattle.std.proofs.Common.{List, Some, ltb, lt-ltb, le-ltb, sym, ap, ◌∙◌}
 use Rattle.std.proofs.lemmas.Result.{err_from_is_err_and}
 use Rattle.obj_model.specs.declared.reply.Kept.{Kept}
 use Rattle.rec_codec.specs.Reading.{kept_at, kepts_at}

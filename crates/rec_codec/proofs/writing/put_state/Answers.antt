@@ -1,7 +1,5 @@
-use Rattle.byteorder.specs.Endian.{big_bytes}
-use Rattle.rec_codec.specs.Spelling.{object_or_none, kept_list}
-use Rattle.rec_codec.proofs.Puts.{kept_few, put_four}
-use Rattle.std.proofs.Common.{◌≡◌, ℕ, ◌<◌, length, List, subst, sym}
+use Rattle.rec_codec.proofs.Puts.{kept_few}
+use Rattle.std.proofs.Common.{◌<◌, length, List, subst, sym}
 use Rattle.obj_model.specs.declared.reply.Kept.{Kept}
 use Rattle.rec_codec.proofs.writing.put_state.Goals as goal
 

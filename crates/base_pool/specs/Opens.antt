@@ -1,0 +1,66 @@
+-- What attaching a base, opening it anew, and reading a state do.
+use Rattle.std.specs.Prelude.{◌≡◌, ◌⊎◌, ◌≤◌, ℕ, true, false, List, [], ◌∷◌, Option, Some, None, Result, Ok, Err}
+use Rattle.std.specs.FinMap as fin
+use Rattle.obj_model.specs.Limits.{number_limit}
+use Rattle.obj_model.specs.States.{IsState}
+use Rattle.obj_model.specs.declared.state.NameState.{NameState}
+use Rattle.store_face.specs.Calls.{Opens, ReadFails, Reopened, Stays}
+use Rattle.store_face.specs.Tables.{Table}
+use Rattle.store_face.specs.Views.{Holds, StoreView}
+use Rattle.store_face.specs.declared.fault.StoreFault.{StoreFault}
+use Rattle.pool_keys.specs.Keys.{epoch_key}
+use Rattle.pool_keys.specs.Values.{SpellsEpoch}
+use Rattle.base_pool.specs.Serves.{FailsBase, IsUnreadable, StaysBase}
+use Rattle.base_pool.specs.Views.{BaseView, Has, IsAt}
+use Rattle.base_pool.specs.declared.fault.BaseFault.{BaseFault}
+use Rattle.base_pool.specs.declared.fault.BaseFault.TheVariants.{Store, BadRecord}
+
+-- the value under the key of the epoch spells none
+pub record HasNoEpoch (t : Table) : Type 0 where
+  pub bytes : List ℕ
+  pub there : fin.get t epoch_key ≡ Some bytes
+  pub none : (epoch : ℕ) → SpellsEpoch bytes epoch → ⊥
+
+-- the epoch of a store was read, or why it was not; a value that spells none is told with the name E
+abbrev pub ReadsEpoch : StoreView → StoreView → Result ℕ BaseFault → Type 0
+ReadsEpoch old new (Ok epoch) = Stays old new × (epoch ≤ number_limit) × Holds old (IsAt epoch)
+ReadsEpoch old new (Err (Store fault)) = ReadFails fault old new
+ReadsEpoch old new (Err (BadRecord name)) = Stays old new × (name ≡ epoch_key) × Holds old HasNoEpoch
+
+-- a base stands on a store, at the epoch of its map
+pub record Attaches (store : StoreView) (v : BaseView) : Type 0 where
+  pub stays : Stays store v.store
+  pub opened : v.opened ≡ true
+  pub epoch : Holds store (IsAt v.epoch)
+
+-- a base was opened anew, at the epoch of the map that was found
+pub record OpensBase (old new : BaseView) : Type 0 where
+  pub opens : Opens old.store new.store
+  pub opened : new.opened ≡ true
+  pub epoch : Holds new.store (IsAt new.epoch)
+
+-- the store was opened anew, and then its epoch was not read
+pub record OpensUnread (old new : BaseView) (fault : BaseFault) : Type 0 where
+  pub between : StoreView
+  pub opens : Opens old.store between
+  pub unread : ReadsEpoch between new.store (Err fault)
+
+-- a base that was not opened anew is not live
+pub record IsShut (old new : BaseView) : Type 0 where
+  pub opened : new.opened ≡ false
+  pub epoch : new.epoch ≡ old.epoch
+
+-- a base is opened anew, or why it is not: opening its store failed, or reading its epoch did
+abbrev pub ReopensBase : BaseView → BaseView → Result (Unit {0}) BaseFault → Type 0
+ReopensBase old new (Ok done) = OpensBase old new
+ReopensBase old new (Err (Store fault)) =
+    IsShut old new × (Reopened old.store new.store (Err fault) ⊎ OpensUnread old new (Store fault))
+ReopensBase old new (Err (BadRecord name)) = IsShut old new × OpensUnread old new (BadRecord name)
+
+-- the state of a name is read, or why it is not
+abbrev pub ReadsState : List ℕ → BaseView → BaseView → Result NameState BaseFault → Type 0
+ReadsState name old new (Ok s) = IsState s × Holds old.store (Has name s) × StaysBase old new
+ReadsState name old new (Err (Store fault)) =
+    ReadFails fault old.store new.store × (new.epoch ≡ old.epoch) × (new.opened ≡ old.opened)
+ReadsState name old new (Err (BadRecord other)) =
+    (other ≡ name) × Holds old.store (IsUnreadable name) × StaysBase old new

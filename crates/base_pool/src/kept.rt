@@ -1,0 +1,89 @@
+//! The state of a name: read from the store, or still in memory from the last reading, so that an
+//! object that is asked for chunk by chunk is read and decoded once.
+ghost use Rattle.std.specs.Prelude.{◌≡◌, true, Ok, Some, IfOk};
+ghost use Rattle.rec_codec.specs.Spelling.{SpellsState};
+ghost use Rattle.store_face.specs.Views.{Sound};
+ghost use Rattle.base_pool.specs.Steps.{Decodes, Finds, IsKept, Recalls};
+
+use crate::BaseFault;
+use obj_model::{Name, NameState};
+use pool_keys::state_key;
+use rec_codec::read_state;
+use std::alloc::Global;
+use store_face::{Store, StoreFault};
+
+/// The state of the name that was read last.
+#[derive(Debug, Drop)]
+pub(crate) struct Kept {
+    pub(crate) name: Name,
+    pub(crate) state: NameState,
+}
+
+// The state that a value spells.
+fn decoded(alloc: Global, bytes: &[u8]) -> Result<Option<NameState>, StoreFault>
+    ensures { Decodes (SpellsState bytes.now) result }
+{
+    match read_state(alloc, bytes) {
+        Ok(state) => Ok(state),
+        Err(_) => Err(StoreFault::NoMemory),
+    }
+}
+
+// The state of a name, from the store.
+#[tactic(auto, using(crate::proofs::Found::find_none, crate::proofs::Found::find_some, crate::proofs::Found::find_wrong, crate::proofs::Found::find_memory, crate::proofs::Later::stays_same))]
+fn find_state<P: Store>(alloc: Global, store: &mut P, name: &Name) -> Result<NameState, BaseFault>
+    requires live { (P.state store.old).live ≡ true }
+    requires sound { Sound (P.state store.old) }
+    ensures found { Finds name.now (P.state store.old) (P.state store.new) result }
+    ensures sound { Sound (P.state store.new) }
+{
+    let key = state_key(alloc, name)?;
+    match store.get(key.as_slice()) {
+        Err(fault) => Err(BaseFault::Store(fault)),
+        Ok(None) => Ok(NameState::unknown(alloc)),
+        Ok(Some(value)) => match decoded(alloc, value.as_slice()) {
+            Err(fault) => Err(BaseFault::Store(fault)),
+            Ok(Some(state)) => Ok(state),
+            Ok(None) => Err(BaseFault::BadRecord { name: name.copy()? }),
+        },
+    }
+}
+
+// The state of a name, from the store, to be kept.
+fn read_anew<P: Store>(alloc: Global, store: &mut P, name: &Name) -> Result<Kept, BaseFault>
+    requires live { (P.state store.old).live ≡ true }
+    requires sound { Sound (P.state store.old) }
+    ensures found { Recalls name.now (P.state store.old) (P.state store.new) result }
+    ensures sound { Sound (P.state store.new) }
+{
+    let copy = name.copy()?;
+    match find_state(alloc, store, name) {
+        Err(fault) => Err(fault),
+        Ok(state) => Ok(Kept { name: copy, state }),
+    }
+}
+
+/// The state of a name, with its name: the one that is kept, or else the store's.
+pub(crate) fn recall<P: Store>(
+    alloc: Global,
+    store: &mut P,
+    kept: Option<Kept>,
+    name: &Name,
+) -> Result<Kept, BaseFault>
+    requires live { (P.state store.old).live ≡ true }
+    requires sound { Sound (P.state store.old) }
+    requires kept { IsKept (P.state store.old) kept }
+    ensures found { Recalls name.now (P.state store.old) (P.state store.new) result }
+    ensures sound { Sound (P.state store.new) }
+{
+    match kept {
+        None => read_anew(alloc, store, name),
+        Some(held) => {
+            if held.name == *name {
+                Ok(held)
+            } else {
+                read_anew(alloc, store, name)
+            }
+        }
+    }
+}

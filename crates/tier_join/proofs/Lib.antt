@@ -1,0 +1,13 @@
+pub mod Left
+pub mod Commits
+pub mod Keys
+pub mod MemoryMoves
+pub mod Rests
+pub mod CacheSteps
+pub mod BaseSteps
+pub mod MemorySteps
+pub mod Reopening
+pub mod Telling
+pub mod Groups
+pub mod Seeing
+pub mod Empty
