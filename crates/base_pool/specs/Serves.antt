@@ -18,7 +18,9 @@ use Rattle.store_face.specs.Tables.{Table}
 use Rattle.store_face.specs.Views.{Holds, Lacks, StoreView}
 use Rattle.store_face.specs.declared.fault.StoreFault.{StoreFault}
 use Rattle.store_face.specs.declared.fault.StoreFault.TheVariants as store
-use Rattle.tier_types.specs.Serving.{BaseMsg, BaseReply, epoch_in, name_in, opid_in, served}
+use Rattle.tier_types.specs.Serving.{epoch_in, name_in, opid_in, served}
+use Rattle.tier_types.specs.declared.message.BaseMsg.{BaseMsg}
+use Rattle.tier_types.specs.declared.message.BaseReply.{BaseReply}
 use Rattle.pool_keys.specs.Keys.{epoch_key, state_key}
 use Rattle.base_pool.specs.Views.{BaseView, Has}
 use Rattle.base_pool.specs.declared.fault.BaseFault.{BaseFault}
@@ -82,6 +84,11 @@ pub record IsOn (msg : BaseMsg) (old : BaseView) (s : NameState) : Type 0 where
   pub lawful : IsState s
   pub read : is_taken old.epoch msg ≡ true → Holds old.store (HasFor msg s)
 
+-- a state that is put has a spelling, and it is that which is put
+abbrev pub IsSpelled : Option NameState → Type 0
+IsSpelled None = Unit {0}
+IsSpelled (Some s) = SpellsState (state_bytes s) s
+
 -- a message was answered: the reply, the epoch and the changes are what serving it makes
 pub record Answers (msg : BaseMsg) (old new : BaseView) (reply : BaseReply) : Type 0 where
   pub state : NameState
@@ -89,6 +96,7 @@ pub record Answers (msg : BaseMsg) (old new : BaseView) (reply : BaseReply) : Ty
   pub told : reply ≡ (served old.epoch state msg).reply
   pub epoch : new.epoch ≡ (served old.epoch state msg).epoch
   pub low : old.epoch ≤ number_limit → new.epoch ≤ number_limit
+  pub spelled : IsSpelled (served old.epoch state msg).put
   pub makes : Makes (changes_by old.epoch state msg) old.store new.store
   pub opened : new.opened ≡ old.opened
 
@@ -96,6 +104,8 @@ pub record Answers (msg : BaseMsg) (old new : BaseView) (reply : BaseReply) : Ty
 pub record Commits (msg : BaseMsg) (old : BaseView) (s : NameState) : Type 0 where
   pub taken : is_taken old.epoch msg ≡ true
   pub on : IsOn msg old s
+  pub low : (served old.epoch s msg).epoch ≤ number_limit
+  pub spelled : IsSpelled (served old.epoch s msg).put
   pub some : changes_by old.epoch s msg ≢ []
 
 -- the commit that a message needed found no room
@@ -158,13 +168,18 @@ pub record WearsEpoch (msg : BaseMsg) (old new : BaseView) (limit : ℕ) : Type 
   pub limit_is : limit ≡ number_limit
   pub stays : StaysBase old new
 
+-- there was not the memory to serve the message; a refusal takes none
+pub record LacksMemory (msg : BaseMsg) (old new : BaseView) : Type 0 where
+  pub taken : is_taken old.epoch msg ≡ true
+  pub stays : StaysBase old new
+
 -- why a message was not answered
 abbrev pub Faults : BaseMsg → BaseView → BaseView → StoreFault → Type 0
 Faults msg old new store.Disk = FailsReading msg old new ⊎ FailsCommit msg old new
 Faults msg old new (store.BadImage at) = ⊥
 Faults msg old new (store.NoSpace used need limit) = ⊥
 Faults msg old new (store.Worn limit) = WearsEpoch msg old new limit ⊎ WearsStore msg old new limit
-Faults msg old new store.NoMemory = StaysBase old new
+Faults msg old new store.NoMemory = LacksMemory msg old new
 
 -- the value that the map has for a name spells no state
 pub record IsUnreadable (name : List ℕ) (t : Table) : Type 0 where

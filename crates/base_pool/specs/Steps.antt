@@ -6,8 +6,9 @@ use Rattle.store_face.specs.Calls.{ReadFails, Stays}
 use Rattle.store_face.specs.Views.{Holds, Sound, StoreView}
 use Rattle.store_face.specs.declared.fault.StoreFault.{StoreFault}
 use Rattle.store_face.specs.declared.fault.StoreFault.TheVariants as store
-use Rattle.tier_types.specs.Serving.{BaseMsg, BaseReply}
-use Rattle.base_pool.specs.Serves.{IsUnreadable}
+use Rattle.tier_types.specs.declared.message.BaseMsg.{BaseMsg}
+use Rattle.tier_types.specs.declared.message.BaseReply.{BaseReply}
+use Rattle.base_pool.specs.Serves.{IsSpelled, IsUnreadable}
 use Rattle.base_pool.specs.Views.{BaseView, Has}
 use Rattle.base_pool.specs.declared.fault.BaseFault.{BaseFault}
 use Rattle.base_pool.specs.declared.fault.BaseFault.TheVariants.{Store, BadRecord}
@@ -39,6 +40,15 @@ abbrev pub Decodes : (NameState → Type 0) → Result (Option NameState) StoreF
 Decodes P (Ok (Some s)) = P s
 Decodes P (Ok None) = (s : NameState) → P s → ⊥
 Decodes P (Err fault) = fault ≡ store.NoMemory
+
+-- the state that a commit puts has a spelling, unless there was no memory for it
+abbrev pub Spells : NameState → Result (Unit {0}) StoreFault → Type 0
+Spells s (Ok done) = IsSpelled (Some s)
+Spells s (Err store.Disk) = IsSpelled (Some s)
+Spells s (Err (store.BadImage at)) = IsSpelled (Some s)
+Spells s (Err (store.NoSpace used need limit)) = IsSpelled (Some s)
+Spells s (Err (store.Worn limit)) = IsSpelled (Some s)
+Spells s (Err store.NoMemory) = Unit {0}
 
 -- a message of another epoch than the base's is refused
 abbrev pub refused_epoch : (have got : ℕ) → Option BaseReply

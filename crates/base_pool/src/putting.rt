@@ -7,7 +7,7 @@ ghost use Rattle.pool_keys.specs.Keys.{epoch_key};
 ghost use Rattle.store_face.specs.Calls.{Committed};
 ghost use Rattle.store_face.specs.Views.{Sound};
 ghost use Rattle.base_pool.specs.Serves.{state_put};
-ghost use Rattle.base_pool.specs.Steps.{refused_by};
+ghost use Rattle.base_pool.specs.Steps.{Spells, refused_by};
 
 use crate::BaseFault;
 use obj_model::{Bytes, Change, Name, NameState};
@@ -18,7 +18,7 @@ use store_face::{Store, StoreFault};
 use tier_types::BaseReply;
 
 /// Puts a name's state into the store.
-#[tactic(auto, using(crate::proofs::Puts::state_txn, crate::proofs::Puts::state_committed, crate::proofs::Later::stays_same))]
+#[tactic(auto, using(crate::proofs::Puts::state_txn, crate::proofs::Puts::state_committed, crate::proofs::Puts::state_spelled, crate::proofs::Later::stays_same))]
 pub(crate) fn put_state<P: Store>(
     alloc: Global,
     store: &mut P,
@@ -29,6 +29,7 @@ pub(crate) fn put_state<P: Store>(
     requires sound { Sound (P.state store.old) }
     requires lawful { IsState state.now }
     ensures put { Committed (state_put (Some name.now) (Some state.now)) (P.state store.old) (P.state store.new) result }
+    ensures spelled { Spells state.now result }
     ensures sound { Sound (P.state store.new) }
 {
     let key = state_key(alloc, name)?;
