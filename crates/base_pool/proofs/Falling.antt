@@ -57,12 +57,12 @@ in_put : (have e : ℕ) (x : Served) (t : NameState) (b c : Bool) → nat_lt e h
     → ((e == have) ≡ true) × (x.put ≡ Some t)
 in_put have e x t true c low high put =
     let none : ◌≡◌ {A = Option NameState} None (Some t)
-        = sym (ap (λ b. (cond b (replies have (BaseReply.OldEpoch have e)) (cond (nat_lt have e) (replies have (BaseReply.NotFenced have e)) x)).put) low) ∙ put in
+    = sym (ap (λ b. (cond b (replies have (BaseReply.OldEpoch have e)) (cond (nat_lt have e) (replies have (BaseReply.NotFenced have e)) x)).put) low) ∙ put in
     absurd (cc)
 in_put have e x t false true low high put =
     let none : ◌≡◌ {A = Option NameState} None (Some t)
-        = sym (ap (λ b. (cond b (replies have (BaseReply.OldEpoch have e)) (cond (nat_lt have e) (replies have (BaseReply.NotFenced have e)) x)).put) low
-        ∙ ap (λ b. (cond b (replies have (BaseReply.NotFenced have e)) x).put) high) ∙ put in
+    = sym (ap (λ b. (cond b (replies have (BaseReply.OldEpoch have e)) (cond (nat_lt have e) (replies have (BaseReply.NotFenced have e)) x)).put) low
+    ∙ ap (λ b. (cond b (replies have (BaseReply.NotFenced have e)) x).put) high) ∙ put in
     absurd (cc)
 in_put have e x t false false low high put = (
   eq-eqb e have (omega (arith, ltb-false e have low, ltb-false have e high)),
@@ -164,7 +164,7 @@ lower_served msg old u h on sound =
       epochs = λ e f was is.
           let one = epoch_one (fin.get h.was epoch_key) e old.epoch was at in
           let two = epoch_one (fin.get u epoch_key) f x.epoch is
-              (subst (IsAt x.epoch) (sym h.is) (epoch_changed old.epoch x.epoch (name_in msg) x.put h.was rises (h.low sound.low) at)) in
+          (subst (IsAt x.epoch) (sym h.is) (epoch_changed old.epoch x.epoch (name_in msg) x.put h.was rises (h.low sound.low) at)) in
           omega (arith, one, two, rises);
       seqs = λ name s r has is.
           changed_seq x.epoch (name_in msg) x.put h.was name s r (nat_lt old.epoch x.epoch) h.spelled (newer_than msg old u h) has (subst (Has name r) h.is is);

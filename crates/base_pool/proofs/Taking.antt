@@ -71,14 +71,14 @@ away_by : (msg : BaseMsg) (have e : ℕ) (x : Served) (o : Bool) (a : StoreView)
 unfolding Turns
 away_by msg have e x o a reply true c low high is on some =
     let step : in_epoch have e x ≡ replies have (BaseReply.OldEpoch have e)
-        = ap (λ t. cond t (replies have (BaseReply.OldEpoch have e)) (cond (nat_lt have e) (replies have (BaseReply.NotFenced have e)) x)) low in
+    = ap (λ t. cond t (replies have (BaseReply.OldEpoch have e)) (cond (nat_lt have e) (replies have (BaseReply.NotFenced have e)) x)) low in
     let less = ltb-true e have low in
     subst (λ r. Serves msg (base_of a have o) (base_of a have o) (Ok r)) (some_is (BaseReply.OldEpoch have e) reply some)
     (left msg have o a (BaseReply.OldEpoch have e) (is ∙ step) (on ∙ ne_eqb e have (λ same. omega (arith, same, less))))
 away_by msg have e x o a reply false true low high is on some =
     let step : in_epoch have e x ≡ replies have (BaseReply.NotFenced have e)
-        = ap (λ t. cond t (replies have (BaseReply.OldEpoch have e)) (cond (nat_lt have e) (replies have (BaseReply.NotFenced have e)) x)) low
-        ∙ ap (λ t. cond t (replies have (BaseReply.NotFenced have e)) x) high in
+    = ap (λ t. cond t (replies have (BaseReply.OldEpoch have e)) (cond (nat_lt have e) (replies have (BaseReply.NotFenced have e)) x)) low
+    ∙ ap (λ t. cond t (replies have (BaseReply.NotFenced have e)) x) high in
     let more = ltb-true have e high in
     subst (λ r. Serves msg (base_of a have o) (base_of a have o) (Ok r)) (some_is (BaseReply.NotFenced have e) reply some)
     (left msg have o a (BaseReply.NotFenced have e) (is ∙ step) (on ∙ ne_eqb e have (λ same. omega (arith, same, more))))
@@ -89,7 +89,7 @@ fence_away : (have e : ℕ) (o : Bool) (a : StoreView) (reply : BaseReply) (b : 
 unfolding Turns
 fence_away have e o a reply true low some =
     let step : served have unknown (BaseMsg.Fence e) ≡ replies have (BaseReply.OldEpoch have e)
-        = ap (λ t. cond t (replies have (BaseReply.OldEpoch have e)) (replies e (BaseReply.Fenced e))) low in
+    = ap (λ t. cond t (replies have (BaseReply.OldEpoch have e)) (replies e (BaseReply.Fenced e))) low in
     subst (λ r. Serves (BaseMsg.Fence e) (base_of a have o) (base_of a have o) (Ok r)) (some_is (BaseReply.OldEpoch have e) reply some)
     (left (BaseMsg.Fence e) have o a (BaseReply.OldEpoch have e) step (ap not low))
 fence_away have e o a reply false low some = absurd (cc)

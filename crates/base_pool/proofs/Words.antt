@@ -92,8 +92,8 @@ lower_install op name t s old new reply m h before has low =
     let msg = BaseMsg.Install old.epoch op name t in
     let told = BaseReply.Installed old.epoch op t.seq in
     let at : (x : NameState) → IsOn msg old x → served old.epoch x msg ≡ replies old.epoch told
-        = λ x on. let same = on_state msg old name x s m (own_taken old.epoch) refl on before has in
-        served_install old.epoch op name x t None (ap (λ c. cond c (Some t) None) (le-ltb x.seq t.seq (omega (arith, low, ap (λ (y : NameState). y.seq) same)))) in
+    = λ x on. let same = on_state msg old name x s m (own_taken old.epoch) refl on before has in
+    served_install old.epoch op name x t None (ap (λ c. cond c (Some t) None) (le-ltb x.seq t.seq (omega (arith, low, ap (λ (y : NameState). y.seq) same)))) in
     reply_cases msg old new (λ r. (r ≡ told) × StaysBase old new)
     (λ r a. quiet_stays msg old new r a told (at a.state a.on))
     (λ e o used need limit l. absurd (quiet_needs msg old l.state told (at l.state l.commits.on) l.commits))
@@ -143,11 +143,11 @@ again_told op r reply t s e mid new told here acts tells has h =
     let answer = BaseReply.Wrote e op (BaseActed.Again reply) in
     let taken : is_taken mid.epoch msg ≡ true = subst (λ x. is_taken x msg ≡ true) (sym here) (own_taken e) in
     let at : (x : NameState) → IsOn msg mid x → served mid.epoch x msg ≡ replies mid.epoch answer
-        = λ x on.
-        let same : x ≡ t = said_by (x ≡ t) mid.store.moments tells
-            (now_two no_map mid.store.moments (λ m. Has r.name x m.before.table) (λ m. Has r.name t m.before.table) (λ _. x ≡ t)
-            (λ m p q. state_one (fin.get m.before.table (state_key r.name)) x t p q) (on.read taken) has) in
-        subst (λ y. served y x msg ≡ replies y answer) (sym here) (served_write e op r x (Again reply) (ap (λ y. act y r) same ∙ acts)) in
+    = λ x on.
+    let same : x ≡ t = said_by (x ≡ t) mid.store.moments tells
+    (now_two no_map mid.store.moments (λ m. Has r.name x m.before.table) (λ m. Has r.name t m.before.table) (λ _. x ≡ t)
+    (λ m p q. state_one (fin.get m.before.table (state_key r.name)) x t p q) (on.read taken) has) in
+    subst (λ y. served y x msg ≡ replies y answer) (sym here) (served_write e op r x (Again reply) (ap (λ y. act y r) same ∙ acts)) in
     reply_cases msg mid new (λ a. (a ≡ answer) × StaysBase mid new)
     (λ a w. quiet_stays msg mid new a w answer (at w.state w.on))
     (λ f o used need limit l. absurd (quiet_needs msg mid l.state answer (at l.state l.commits.on) l.commits))
@@ -160,7 +160,7 @@ writes_once op again r reply old mid new told first second tells =
     let acted = acted_of old.epoch op reply (act first.state r) (first.told ∙ ap (λ (x : Served). x.reply) plain) in
     let is = served_write old.epoch op r first.state (Fresh acted.0 reply) acted.1 in
     let made : Made (put_at r.name acted.0 ∷ []) old.store mid.store
-        = subst (λ cs. Makes cs old.store mid.store) (own_changes msg old.epoch first.state (Some acted.0) (BaseReply.Wrote old.epoch op (BaseActed.Fresh reply)) is) first.makes in
+    = subst (λ cs. Makes cs old.store mid.store) (own_changes msg old.epoch first.state (Some acted.0) (BaseReply.Wrote old.epoch op (BaseActed.Fresh reply)) is) first.makes in
     let spelled : SpellsState (state_bytes acted.0) acted.0 = subst (λ (x : Served). IsSpelled x.put) is first.spelled in
     again_told again r reply acted.0 first.state old.epoch mid new told (first.epoch ∙ ap (λ (x : Served). x.epoch) is)
     (acted_kept first.state r acted.0 reply acted.1) (told_grown old.store.moments mid.store.moments made.between.more made.between.grew tells)
@@ -216,8 +216,8 @@ chunks_gather = record {
       let msg = BaseMsg.GetChunk old.epoch op name at in
       let same = on_state msg old name h.state s m (own_taken old.epoch) refl h.on before has in
       let reply : BaseReply.Chunk old.epoch op chunk ≡ BaseReply.Chunk old.epoch op (chunk_at (chunks_of s) at)
-          = h.told ∙ ap (λ (x : Served). x.reply) (own_epoch old.epoch (replies old.epoch (BaseReply.Chunk old.epoch op (chunk_at (chunks_of h.state) at))))
-          ∙ ap (λ x. BaseReply.Chunk old.epoch op (chunk_at (chunks_of x) at)) same in
+      = h.told ∙ ap (λ (x : Served). x.reply) (own_epoch old.epoch (replies old.epoch (BaseReply.Chunk old.epoch op (chunk_at (chunks_of h.state) at))))
+      ∙ ap (λ x. BaseReply.Chunk old.epoch op (chunk_at (chunks_of x) at)) same in
       let goes = front_goes_on cs s at front want in
       record {
         next = goes.chunk;

@@ -112,7 +112,10 @@ impl<P: Store> Base<P> {
         ensures sound { SoundBase self.new }
     {
         let Base {
-            store, epoch, kept, ..
+            store,
+            epoch,
+            kept,
+            ..
         } = self;
         answer(alloc, store, epoch, kept, message)
     }

@@ -301,11 +301,17 @@ fn carry_out<P: Store>(
             get_chunk(alloc, store, kept, *epoch, *opid, name, at)
         }
         BaseMsg::Look {
-            opid, name, vector, ..
+            opid,
+            name,
+            vector,
+            ..
         } => look_up(alloc, store, kept, *epoch, *opid, name, vector),
         BaseMsg::Write { opid, req, .. } => write(alloc, store, kept, *epoch, *opid, req),
         BaseMsg::Install {
-            opid, name, state, ..
+            opid,
+            name,
+            state,
+            ..
         } => install(alloc, store, kept, *epoch, *opid, name, state),
     }
 }

@@ -19,7 +19,7 @@ mod refusing;
 pub use base::Base;
 pub use fault::BaseFault;
 pub use laws::{
-    chunks_gather, lower_install_leaves, nothing_falls, old_is_refused, readings_leave, stops_between,
-    writes_once,
+    chunks_gather, lower_install_leaves, nothing_falls, old_is_refused, readings_leave,
+    stops_between, writes_once,
 };
 pub use tier_types::{BaseActed, BaseMsg, BaseReply};

@@ -69,7 +69,12 @@ fn a_damaged_state_is_told(rt: HostRuntime) -> Result<(), Fail> {
 fn a_damaged_epoch_is_told(rt: HostRuntime) -> Result<(), Fail> {
     let alloc = rt.alloc();
     let mut store = log(&rt, alloc, disk(&rt, alloc, 0, 0, Pick::Old)?);
-    commit(&rt, alloc, &mut store, b"\x01\x01\0\x01E\0\0\0\x08\0\0\0\0\0\0\0\0");
+    commit(
+        &rt,
+        alloc,
+        &mut store,
+        b"\x01\x01\0\x01E\0\0\0\x08\0\0\0\0\0\0\0\0",
+    );
     let mut told = String::new(alloc);
     match attach(&rt, alloc, store) {
         Ok(_) => told.push_str("attached")?,

@@ -72,7 +72,11 @@ pub fn commit(rt: &impl Abort, alloc: Global, store: &mut LogStore<MemDisk>, byt
 }
 
 pub fn name(alloc: Global) -> Result<Name, Fail> {
-    Ok(Name::new(Vec::from_slice(alloc, b"a")?).ok().ok_or("a name")?)
+    Ok(
+        Name::new(Vec::from_slice(alloc, b"a")?)
+            .ok()
+            .ok_or("a name")?,
+    )
 }
 
 fn vector(alloc: Global, op: SubOp) -> Result<Vector, Fail> {
