@@ -29,7 +29,7 @@ use Rattle.base_pool.specs.Views.{BaseView, Has}
 use Rattle.base_pool.specs.declared.fault.BaseFault.{BaseFault}
 use Rattle.base_pool.specs.declared.kept.Kept.{Kept}
 use Rattle.base_pool.proofs.Later.{commit_later}
-use Rattle.base_pool.proofs.Readings.{own_answers, own_changes, own_epoch, own_failed, own_taken}
+use Rattle.base_pool.proofs.Readings.{kept_on, no_memory_then, own_answers, own_changes, own_epoch, own_failed, own_taken}
 
 -- ---- a commit that failed
 
@@ -179,3 +179,9 @@ install_left have op name t o a b k h less =
 pub install_failed : (have op : ℕ) (name : List ℕ) (t : NameState) (o : Bool) (a b : StoreView) (fault : BaseFault) → Recalls name a b (Err fault)
     → Serves (BaseMsg.Install have op name t) (base_of a have o) (base_of b have o) (Err fault)
 install_failed have op name t o a b fault h = own_failed (BaseMsg.Install have op name t) have o a b name fault (own_taken have) refl h
+
+-- what the answer to a request rests on
+pub ruleset write_rules = (fresh_lawful, unacted_given, write_failed, no_memory_then, kept_on)
+
+-- what the answer to an installation rests on
+pub ruleset install_rules = (install_left, install_failed, kept_on)

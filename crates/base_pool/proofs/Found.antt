@@ -19,6 +19,7 @@ use Rattle.base_pool.specs.Serves.{IsUnreadable}
 use Rattle.base_pool.specs.Steps.{Finds}
 use Rattle.base_pool.specs.Views.{IsAt}
 use Rattle.base_pool.specs.declared.fault.BaseFault.TheVariants.{Store, BadRecord}
+use Rattle.base_pool.proofs.Later.{stays_same}
 
 -- what holds of the value that was read holds of the map's
 at_key : (v : StoreView) (key place : List ℕ) (P : Option (List ℕ) → Type 0) (value : Option (List ℕ)) → key ≡ place
@@ -78,3 +79,9 @@ epoch_wrong key name bytes value a b same is e h none = (
   now_weaker no_map a.moments (λ s. Some value ≡ fin.get s.before.table key) (λ s. HasNoEpoch s.before.table)
       (λ s got. no_epoch_at s.before.table key bytes value same e got none) h.1,
 )
+
+-- what the reading of a state rests on
+pub ruleset find_rules = (find_none, find_some, find_wrong, find_memory, stays_same)
+
+-- what the reading of an epoch rests on
+pub ruleset epoch_rules = (epoch_zero, epoch_some, epoch_wrong, stays_same)

@@ -17,6 +17,7 @@ use Rattle.store_face.specs.declared.fault.StoreFault.{StoreFault}
 use Rattle.store_face.specs.declared.fault.StoreFault.TheVariants as store
 use Rattle.base_pool.specs.Serves.{state_put}
 use Rattle.base_pool.specs.Steps.{Spells}
+use Rattle.base_pool.proofs.Later.{stays_same}
 
 -- one value is a transaction
 one_put : (key value : List ℕ) → IsStoreKey key → length value ≤ 16777216 → IsTxn (Put key value ∷ [])
@@ -55,3 +56,9 @@ pub epoch_committed : (key value : List ℕ) (epoch : ℕ) (a b : StoreView) (re
     → Committed (Put key value ∷ []) a b result → Committed (Put epoch_key (big_bytes 8 epoch) ∷ []) a b result
 epoch_committed key value epoch a b result same spells h =
     subst (λ (c : Change). Committed (c ∷ []) a b result) (ap₂ Put same spells.spelled) h
+
+-- what the putting of a state rests on
+pub ruleset state_rules = (state_txn, state_committed, state_spelled, stays_same)
+
+-- what the putting of an epoch rests on
+pub ruleset epoch_rules = (epoch_txn, epoch_committed, stays_same)

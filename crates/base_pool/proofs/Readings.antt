@@ -121,3 +121,9 @@ look_given have op name v looked o a b k h e =
 pub look_failed : (have op : ℕ) (name : List ℕ) (v : List SubOp) (o : Bool) (a b : StoreView) (fault : BaseFault) → Recalls name a b (Err fault)
     → Serves (BaseMsg.Look have op name v) (base_of a have o) (base_of b have o) (Err fault)
 look_failed have op name v o a b fault h = own_failed (BaseMsg.Look have op name v) have o a b name fault (own_taken have) refl h
+
+-- what the answer to a chunk rests on
+pub ruleset chunk_rules = (chunk_given, chunk_failed, no_memory_then, kept_on)
+
+-- what the answer to a reading rests on
+pub ruleset look_rules = (look_given, look_failed, no_memory_then, kept_on)

@@ -35,7 +35,8 @@ pub record IsServedTo (msg : BaseMsg) (old : BaseView) (u : Table) : Type 0 wher
 -- this message's change
 abbrev pub StopsBetween : Type 0
 StopsBetween =
-    (msg : BaseMsg) (old new : BaseView) (result : Result BaseReply BaseFault) → Serves msg old new result
+    (msg : BaseMsg) (old new : BaseView) (result : Result BaseReply BaseFault)
+    → Serves msg old new result
     → (u : Table) → IsLeftSince old.store new.store u → IsLeft old.store u ⊎ IsServedTo msg old u
 
 -- ---- refusals
@@ -43,7 +44,8 @@ StopsBetween =
 -- a message of an older epoch is refused, with both epochs; nothing changes
 abbrev pub OldIsRefused : Type 0
 OldIsRefused =
-    (msg : BaseMsg) (old new : BaseView) (result : Result BaseReply BaseFault) → Serves msg old new result → epoch_in msg < old.epoch
+    (msg : BaseMsg) (old new : BaseView) (result : Result BaseReply BaseFault)
+    → Serves msg old new result → epoch_in msg < old.epoch
     → (result ≡ Ok (BaseReply.OldEpoch old.epoch (epoch_in msg))) × StaysBase old new
 
 -- ---- requests and installations
@@ -60,7 +62,8 @@ LowerInstallLeaves =
 abbrev pub WritesOnce : Type 0
 WritesOnce =
     (op again : ℕ) (r : Req) (reply : Reply) (old mid new : BaseView) (told : BaseReply)
-    → Serves (BaseMsg.Write old.epoch op r) old mid (Ok (BaseReply.Wrote old.epoch op (BaseActed.Fresh reply)))
+    → Serves (BaseMsg.Write old.epoch op r) old mid
+    (Ok (BaseReply.Wrote old.epoch op (BaseActed.Fresh reply)))
     → Serves (BaseMsg.Write old.epoch again r) mid new (Ok told) → Tells old.store
     → (told ≡ BaseReply.Wrote old.epoch again (BaseActed.Again reply)) × StaysBase mid new
 
@@ -72,9 +75,11 @@ pub record LeavesMap (old new : BaseView) : Type 0 where
   pub epoch : new.epoch ≡ old.epoch
 
 pub record ReadingsLeave : Type 0 where
-  pub looks : (e op : ℕ) (name : List ℕ) (v : List SubOp) (old new : BaseView) (result : Result BaseReply BaseFault)
+  pub looks : (e op : ℕ) (name : List ℕ) (v : List SubOp) (old new : BaseView)
+      (result : Result BaseReply BaseFault)
       → Serves (BaseMsg.Look e op name v) old new result → LeavesMap old new
-  pub chunks : (e op : ℕ) (name : List ℕ) (at : Cursor) (old new : BaseView) (result : Result BaseReply BaseFault)
+  pub chunks : (e op : ℕ) (name : List ℕ) (at : Cursor) (old new : BaseView)
+      (result : Result BaseReply BaseFault)
       → Serves (BaseMsg.GetChunk e op name at) old new result → LeavesMap old new
 
 -- the chunk that is wanted behind the first chunks of a state, and the first chunks with it
@@ -85,10 +90,14 @@ pub record GoesOn (cs : List Chunk) (s : NameState) (chunk : Option Chunk) : Typ
 
 -- the chunks of a state that is not acted on, asked for one after another, gather to it
 pub record ChunksGather : Type 0 where
-  pub more : (op : ℕ) (name : List ℕ) (at : Cursor) (cs : List Chunk) (s : NameState) (chunk : Option Chunk) (old new : BaseView) (m : Table)
-      → Serves (BaseMsg.GetChunk old.epoch op name at) old new (Ok (BaseReply.Chunk old.epoch op chunk))
-      → IsBefore old.store m → Has name s m → IsFront cs (chunks_of s) → wanted cs ≡ Some at → GoesOn cs s chunk
-  pub all : (cs : List Chunk) (s : NameState) → IsFront cs (chunks_of s) → wanted cs ≡ None → joined cs ≡ Some s
+  pub more : (op : ℕ) (name : List ℕ) (at : Cursor) (cs : List Chunk) (s : NameState)
+      (chunk : Option Chunk) (old new : BaseView) (m : Table)
+      → Serves (BaseMsg.GetChunk old.epoch op name at) old new
+      (Ok (BaseReply.Chunk old.epoch op chunk))
+      → IsBefore old.store m → Has name s m → IsFront cs (chunks_of s) → wanted cs ≡ Some at
+      → GoesOn cs s chunk
+  pub all : (cs : List Chunk) (s : NameState) → IsFront cs (chunks_of s) → wanted cs ≡ None
+      → joined cs ≡ Some s
 
 -- ---- what never falls
 
@@ -100,9 +109,11 @@ pub record IsNoLower (t u : Table) : Type 0 where
 -- no message lowers the epoch or the `seq` of a name, in memory or in any map that a stop may leave
 pub record LowersNothing (old new : BaseView) : Type 0 where
   pub epoch : old.epoch ≤ new.epoch
-  pub maps : (t u : Table) → IsBefore old.store t → IsLeftSince old.store new.store u → IsNoLower t u
+  pub maps : (t u : Table) → IsBefore old.store t → IsLeftSince old.store new.store u
+      → IsNoLower t u
 
 abbrev pub NothingFalls : Type 0
 NothingFalls =
-    (msg : BaseMsg) (old new : BaseView) (result : Result BaseReply BaseFault) → Serves msg old new result
+    (msg : BaseMsg) (old new : BaseView) (result : Result BaseReply BaseFault)
+    → Serves msg old new result
     → IsLive old → SoundBase old → LowersNothing old new

@@ -33,7 +33,8 @@ pub record IsWriteReq (r : Req) : Type 0 where
   pub client_high : r.client ≤ 256
   pub tid : r.tid ≤ number_limit
 
--- a message that can be served: its reading reads, its request writes, its state is within its limits
+-- a message that can be served: its reading reads, its request writes, its state is within its
+-- limits
 abbrev pub IsMsg : BaseMsg → Type 0
 IsMsg (BaseMsg.Fence e) = Unit {0}
 IsMsg (BaseMsg.GetChunk e op name at) = Unit {0}
@@ -66,9 +67,11 @@ state_put (Some name) (Some s) = Put (state_key name) (state_bytes s) ∷ []
 -- what a message changes of a base at this epoch with this state of its name: at most one key, that
 -- of the epoch or that of the name's state
 abbrev pub changes_by : (have : ℕ) → NameState → BaseMsg → List Change
-changes_by have s msg = epoch_put have (served have s msg).epoch ++ state_put (name_in msg) (served have s msg).put
+changes_by have s msg =
+    epoch_put have (served have s msg).epoch ++ state_put (name_in msg) (served have s msg).put
 
--- nothing changed where there is no change, not even a moment came; else they were made by one commit
+-- nothing changed where there is no change, not even a moment came; else they were made by one
+-- commit
 abbrev pub Makes : List Change → StoreView → StoreView → Type 0
 Makes [] old new = Stays old new
 Makes (c ∷ cs) old new = Made (c ∷ cs) old new
@@ -109,25 +112,29 @@ pub record Commits (msg : BaseMsg) (old : BaseView) (s : NameState) : Type 0 whe
   pub some : changes_by old.epoch s msg ≢ []
 
 -- the commit that a message needed found no room
-pub record LacksRoom (msg : BaseMsg) (old new : BaseView) (epoch opid : ℕ) (lack : Lack) : Type 0 where
+pub record LacksRoom (msg : BaseMsg) (old new : BaseView) (e op : ℕ) (lack : Lack) : Type 0 where
   pub state : NameState
   pub commits : Commits msg old state
   pub lacks : Lacks old.store (changes_by old.epoch state msg) (Some lack)
-  pub epoch_is : epoch ≡ epoch_in msg
-  pub opid_is : opid ≡ opid_in msg
+  pub epoch_is : e ≡ epoch_in msg
+  pub opid_is : op ≡ opid_in msg
   pub stays : StaysBase old new
 
 -- what is replied: want of room exactly where the commit that the message needed lacked it
 abbrev pub Replies : BaseMsg → BaseView → BaseView → BaseReply → Type 0
 Replies msg old new (BaseReply.Fenced e) = Answers msg old new (BaseReply.Fenced e)
 Replies msg old new (BaseReply.Chunk e op chunk) = Answers msg old new (BaseReply.Chunk e op chunk)
-Replies msg old new (BaseReply.Looked e op looked) = Answers msg old new (BaseReply.Looked e op looked)
+Replies msg old new (BaseReply.Looked e op looked) =
+    Answers msg old new (BaseReply.Looked e op looked)
 Replies msg old new (BaseReply.Wrote e op acted) = Answers msg old new (BaseReply.Wrote e op acted)
-Replies msg old new (BaseReply.Installed e op seq) = Answers msg old new (BaseReply.Installed e op seq)
+Replies msg old new (BaseReply.Installed e op seq) =
+    Answers msg old new (BaseReply.Installed e op seq)
 Replies msg old new (BaseReply.NoSpace e op used need limit) =
     LacksRoom msg old new e op (record { used = used; need = need; limit = limit })
-Replies msg old new (BaseReply.OldEpoch have got) = Answers msg old new (BaseReply.OldEpoch have got)
-Replies msg old new (BaseReply.NotFenced have got) = Answers msg old new (BaseReply.NotFenced have got)
+Replies msg old new (BaseReply.OldEpoch have got) =
+    Answers msg old new (BaseReply.OldEpoch have got)
+Replies msg old new (BaseReply.NotFenced have got) =
+    Answers msg old new (BaseReply.NotFenced have got)
 
 -- ---- faults
 

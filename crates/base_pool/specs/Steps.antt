@@ -27,13 +27,16 @@ IsKept v (Some k) = IsState k.state × Holds v (Has k.name k.state)
 abbrev pub Finds : List ℕ → StoreView → StoreView → Result NameState BaseFault → Type 0
 Finds name old new (Ok s) = IsState s × Holds old (Has name s) × Stays old new
 Finds name old new (Err (Store fault)) = ReadFails fault old new
-Finds name old new (Err (BadRecord other)) = (other ≡ name) × Holds old (IsUnreadable name) × Stays old new
+Finds name old new (Err (BadRecord other)) =
+    (other ≡ name) × Holds old (IsUnreadable name) × Stays old new
 
 -- the same, with the state kept
 abbrev pub Recalls : List ℕ → StoreView → StoreView → Result Kept BaseFault → Type 0
-Recalls name old new (Ok k) = (k.name ≡ name) × IsState k.state × Holds old (Has name k.state) × Stays old new
+Recalls name old new (Ok k) =
+    (k.name ≡ name) × IsState k.state × Holds old (Has name k.state) × Stays old new
 Recalls name old new (Err (Store fault)) = ReadFails fault old new
-Recalls name old new (Err (BadRecord other)) = (other ≡ name) × Holds old (IsUnreadable name) × Stays old new
+Recalls name old new (Err (BadRecord other)) =
+    (other ≡ name) × Holds old (IsUnreadable name) × Stays old new
 
 -- what bytes spell, or that they spell no state
 abbrev pub Decodes : (NameState → Type 0) → Result (Option NameState) StoreFault → Type 0

@@ -55,7 +55,10 @@ coded_base =
     code_by ((Option (List CrashMaps) × (Bool × ℕ)) × (((ℕ × (ℕ × ℕ)) × ℕ) × (ℕ × Bool)))
     (coded× (coded× (coded_option (coded_list coded_crash)) (coded× coded_bool coded_ℕ))
     (coded× (coded× (coded× coded_ℕ (coded× coded_ℕ coded_ℕ)) coded_ℕ) (coded× coded_ℕ coded_bool)))
-    (λ v. ((v.store.moments, (v.store.live, v.store.faults)), ((parts_of v.store.room, v.store.used), (v.epoch, v.opened))))
+    (λ v. (
+      (v.store.moments, (v.store.live, v.store.faults)),
+      ((parts_of v.store.room, v.store.used), (v.epoch, v.opened)),
+    ))
     (λ c. record {
       store = record {
         moments = c.0.0;

@@ -38,7 +38,8 @@ impl<P: Store> Model for Base<P> {
 
     ghost view = { λ b. base_of (P.state b.store) b.epoch b.opened };
 
-    ghost invariant = { λ b. SoundBase (base_of (P.state b.store) b.epoch b.opened) × IsKept (P.state b.store) b.kept };
+    ghost invariant = { λ b. SoundBase (base_of (P.state b.store) b.epoch b.opened)
+        × IsKept (P.state b.store) b.kept };
 }
 
 impl<P: Store> Base<P> {
@@ -100,10 +101,12 @@ impl<P: Store> Base<P> {
     /// Answers a message.
     ///
     /// A message of an older epoch is refused as OldEpoch, one of an epoch that the base was not
-    /// told of as NotFenced, and both leave everything as it is. A Fence, a request that acts and an
+    /// told of as NotFenced, and both leave everything as it is. A Fence, a request that acts and
+    /// an
     /// Install of a greater `seq` are in the store before they are answered, or are answered with
     /// want of room. BadRecord comes only where the value that was read for this message spells no
-    /// state, Worn where the store is worn out or a Fence is above 2^62, Disk where the disk failed,
+    /// state, Worn where the store is worn out or a Fence is above 2^62, Disk where the disk
+    /// failed,
     /// when the message was served or not.
     pub fn serve(&mut self, alloc: Global, message: &BaseMsg) -> Result<BaseReply, BaseFault>
         requires live { IsLive self.old }
@@ -120,7 +123,8 @@ impl<P: Store> Base<P> {
         answer(alloc, store, epoch, kept, message)
     }
 
-    /// Opens the base anew, as after a crash: its store, and then its epoch. Until it answers Ok the
+    /// Opens the base anew, as after a crash: its store, and then its epoch. Until it answers Ok
+    /// the
     /// base is not live.
     pub fn reopen(&mut self, alloc: Global) -> Result<(), BaseFault>
         ensures reopened { ReopensBase self.old self.new result }

@@ -28,7 +28,6 @@ use store_face::{Store, StoreFault};
 use tier_types::{BaseActed, BaseMsg, BaseReply};
 
 // Takes a Fence of no lower epoch: a greater one is in the store before it is answered.
-
 fn fence<P: Store>(
     alloc: Global,
     store: &mut P,
@@ -38,7 +37,9 @@ fn fence<P: Store>(
     requires live { (P.state store.old).live ≡ true }
     requires sound { Sound (P.state store.old) }
     requires own { epoch.old ≤ got }
-    ensures served { (o : Bool) → Serves (msg.Fence got) (base_of (P.state store.old) epoch.old o) (base_of (P.state store.new) epoch.new o) result }
+    ensures served { (o : Bool)
+        → Serves (msg.Fence got) (base_of (P.state store.old) epoch.old o)
+        (base_of (P.state store.new) epoch.new o) result }
     ensures sound { Sound (P.state store.new) }
 {
     if got == *epoch {
@@ -59,7 +60,7 @@ fn fence<P: Store>(
 }
 
 // Gives the chunk at a place of the name's state.
-#[tactic(auto, using(crate::proofs::Readings::chunk_given, crate::proofs::Readings::chunk_failed, crate::proofs::Readings::no_memory_then, crate::proofs::Readings::kept_on))]
+#[tactic(auto, using(crate::proofs::Readings::chunk_rules))]
 fn get_chunk<P: Store>(
     alloc: Global,
     store: &mut P,
@@ -72,7 +73,9 @@ fn get_chunk<P: Store>(
     requires live { (P.state store.old).live ≡ true }
     requires sound { Sound (P.state store.old) }
     requires kept { IsKept (P.state store.old) kept.old }
-    ensures served { (o : Bool) → Serves (msg.GetChunk have opid name.now at.now) (base_of (P.state store.old) have o) (base_of (P.state store.new) have o) result }
+    ensures served { (o : Bool)
+        → Serves (msg.GetChunk have opid name.now at.now) (base_of (P.state store.old) have o)
+        (base_of (P.state store.new) have o) result }
     ensures sound { Sound (P.state store.new) }
     ensures kept { IsKept (P.state store.new) kept.new }
 {
@@ -93,7 +96,7 @@ fn get_chunk<P: Store>(
 }
 
 // Tells what a reading tells of the name's state.
-#[tactic(auto, using(crate::proofs::Readings::look_given, crate::proofs::Readings::look_failed, crate::proofs::Readings::no_memory_then, crate::proofs::Readings::kept_on))]
+#[tactic(auto, using(crate::proofs::Readings::look_rules))]
 fn look_up<P: Store>(
     alloc: Global,
     store: &mut P,
@@ -107,7 +110,9 @@ fn look_up<P: Store>(
     requires sound { Sound (P.state store.old) }
     requires kept { IsKept (P.state store.old) kept.old }
     requires reads { list_any is_write vector.now ≡ false }
-    ensures served { (o : Bool) → Serves (msg.Look have opid name.now vector.now) (base_of (P.state store.old) have o) (base_of (P.state store.new) have o) result }
+    ensures served { (o : Bool)
+        → Serves (msg.Look have opid name.now vector.now) (base_of (P.state store.old) have o)
+        (base_of (P.state store.new) have o) result }
     ensures sound { Sound (P.state store.new) }
     ensures kept { IsKept (P.state store.new) kept.new }
 {
@@ -142,7 +147,10 @@ fn put_fresh<P: Store>(
     requires sound { Sound (P.state store.old) }
     requires lawful { IsState state.now }
     requires low { have ≤ number_limit }
-    ensures served { (o : Bool) (a : StoreView) (s : NameState) → Stays a (P.state store.old) → IsState s → Holds a (Has req.now.name s) → act s req.now ≡ fresh.Fresh state.now reply → Serves (msg.Write have opid req.now) (base_of a have o) (base_of (P.state store.new) have o) result }
+    ensures served { (o : Bool) (a : StoreView) (s : NameState) → Stays a (P.state store.old)
+        → IsState s → Holds a (Has req.now.name s) → act s req.now ≡ fresh.Fresh state.now reply
+        → Serves (msg.Write have opid req.now) (base_of a have o)
+        (base_of (P.state store.new) have o) result }
     ensures sound { Sound (P.state store.new) }
 {
     match put_state(alloc, store, &req.name, state) {
@@ -156,7 +164,7 @@ fn put_fresh<P: Store>(
 }
 
 // Lets a request act on the name's state.
-#[tactic(auto, using(crate::proofs::Acting::fresh_lawful, crate::proofs::Acting::unacted_given, crate::proofs::Acting::write_failed, crate::proofs::Readings::no_memory_then, crate::proofs::Readings::kept_on))]
+#[tactic(auto, using(crate::proofs::Acting::write_rules))]
 fn write<P: Store>(
     alloc: Global,
     store: &mut P,
@@ -170,7 +178,9 @@ fn write<P: Store>(
     requires kept { IsKept (P.state store.old) kept.old }
     requires lawful { IsWriteReq req.now }
     requires low { have ≤ number_limit }
-    ensures served { (o : Bool) → Serves (msg.Write have opid req.now) (base_of (P.state store.old) have o) (base_of (P.state store.new) have o) result }
+    ensures served { (o : Bool)
+        → Serves (msg.Write have opid req.now) (base_of (P.state store.old) have o)
+        (base_of (P.state store.new) have o) result }
     ensures sound { Sound (P.state store.new) }
     ensures kept { IsKept (P.state store.new) kept.new }
 {
@@ -223,7 +233,10 @@ fn put_installed<P: Store>(
     requires sound { Sound (P.state store.old) }
     requires lawful { IsState state.now }
     requires low { have ≤ number_limit }
-    ensures served { (o : Bool) (a : StoreView) (s : NameState) → Stays a (P.state store.old) → IsState s → Holds a (Has name.now s) → s.seq < state.now.seq → Serves (msg.Install have opid name.now state.now) (base_of a have o) (base_of (P.state store.new) have o) result }
+    ensures served { (o : Bool) (a : StoreView) (s : NameState) → Stays a (P.state store.old)
+        → IsState s → Holds a (Has name.now s) → s.seq < state.now.seq
+        → Serves (msg.Install have opid name.now state.now) (base_of a have o)
+        (base_of (P.state store.new) have o) result }
     ensures sound { Sound (P.state store.new) }
 {
     match put_state(alloc, store, name, state) {
@@ -237,7 +250,7 @@ fn put_installed<P: Store>(
 }
 
 // Installs a state over one that has had fewer requests.
-#[tactic(auto, using(crate::proofs::Acting::install_left, crate::proofs::Acting::install_failed, crate::proofs::Readings::kept_on))]
+#[tactic(auto, using(crate::proofs::Acting::install_rules))]
 fn install<P: Store>(
     alloc: Global,
     store: &mut P,
@@ -252,7 +265,9 @@ fn install<P: Store>(
     requires kept { IsKept (P.state store.old) kept.old }
     requires lawful { IsState state.now }
     requires low { have ≤ number_limit }
-    ensures served { (o : Bool) → Serves (msg.Install have opid name.now state.now) (base_of (P.state store.old) have o) (base_of (P.state store.new) have o) result }
+    ensures served { (o : Bool)
+        → Serves (msg.Install have opid name.now state.now) (base_of (P.state store.old) have o)
+        (base_of (P.state store.new) have o) result }
     ensures sound { Sound (P.state store.new) }
     ensures kept { IsKept (P.state store.new) kept.new }
 {
@@ -288,7 +303,9 @@ fn carry_out<P: Store>(
     requires lawful { IsMsg message.now }
     requires low { epoch.old ≤ number_limit }
     requires taken { refusal epoch.old message.now ≡ None }
-    ensures served { (o : Bool) → Serves message.now (base_of (P.state store.old) epoch.old o) (base_of (P.state store.new) epoch.new o) result }
+    ensures served { (o : Bool)
+        → Serves message.now (base_of (P.state store.old) epoch.old o)
+        (base_of (P.state store.new) epoch.new o) result }
     ensures sound { Sound (P.state store.new) }
     ensures kept { IsKept (P.state store.new) kept.new }
 {
@@ -329,7 +346,9 @@ pub(crate) fn answer<P: Store>(
     requires kept { IsKept (P.state store.old) kept.old }
     requires lawful { IsMsg message.now }
     requires low { epoch.old ≤ number_limit }
-    ensures served { (o : Bool) → Serves message.now (base_of (P.state store.old) epoch.old o) (base_of (P.state store.new) epoch.new o) result }
+    ensures served { (o : Bool)
+        → Serves message.now (base_of (P.state store.old) epoch.old o)
+        (base_of (P.state store.new) epoch.new o) result }
     ensures sound { Sound (P.state store.new) }
     ensures kept { IsKept (P.state store.new) kept.new }
 {

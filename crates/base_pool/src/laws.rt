@@ -7,7 +7,8 @@ pub fn stops_between()
     ensures { StopsBetween }
 {}
 
-/// No message lowers the epoch or the `seq` of a name, in memory or in any map that a stop may leave
+/// No message lowers the epoch or the `seq` of a name, in memory or in any map that a stop may
+/// leave
 /// while it is served.
 pub fn nothing_falls()
     ensures { NothingFalls }
@@ -34,7 +35,8 @@ pub fn readings_leave()
     ensures { ReadingsLeave }
 {}
 
-/// The chunks of a state on which nothing acts meanwhile, asked for one after another, gather to it.
+/// The chunks of a state on which nothing acts meanwhile, asked for one after another, gather to
+/// it.
 pub fn chunks_gather()
     ensures { ChunksGather }
 {}

@@ -23,7 +23,7 @@ fn epoch_name(alloc: Global) -> Result<Name, NoMemory>
 }
 
 /// The epoch that a store's map is at, 0 where it has none.
-#[tactic(auto, using(crate::proofs::Found::epoch_zero, crate::proofs::Found::epoch_some, crate::proofs::Found::epoch_wrong, crate::proofs::Later::stays_same))]
+#[tactic(auto, using(crate::proofs::Found::epoch_rules))]
 pub(crate) fn read_epoch_of<P: Store>(alloc: Global, store: &mut P) -> Result<u64, BaseFault>
     requires live { (P.state store.old).live ≡ true }
     requires sound { Sound (P.state store.old) }
