@@ -21,11 +21,13 @@ pub record HasNoEpoch (t : Table) : Type 0 where
   pub there : fin.get t epoch_key ≡ Some bytes
   pub none : (epoch : ℕ) → SpellsEpoch bytes epoch → ⊥
 
--- the epoch of a store was read, or why it was not; a value that spells none is told with the name E
+-- the epoch of a store was read, or why it was not; a value that spells none is told with the name
+-- E
 abbrev pub ReadsEpoch : StoreView → StoreView → Result ℕ BaseFault → Type 0
 ReadsEpoch old new (Ok epoch) = Stays old new × (epoch ≤ number_limit) × Holds old (IsAt epoch)
 ReadsEpoch old new (Err (Store fault)) = ReadFails fault old new
-ReadsEpoch old new (Err (BadRecord name)) = Stays old new × (name ≡ epoch_key) × Holds old HasNoEpoch
+ReadsEpoch old new (Err (BadRecord name)) =
+    Stays old new × (name ≡ epoch_key) × Holds old HasNoEpoch
 
 -- a base stands on a store, at the epoch of its map
 pub record Attaches (store : StoreView) (v : BaseView) : Type 0 where

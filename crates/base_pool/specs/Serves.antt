@@ -18,7 +18,9 @@ use Rattle.store_face.specs.Tables.{Table}
 use Rattle.store_face.specs.Views.{Holds, Lacks, StoreView}
 use Rattle.store_face.specs.declared.fault.StoreFault.{StoreFault}
 use Rattle.store_face.specs.declared.fault.StoreFault.TheVariants as store
-use Rattle.tier_types.specs.Serving.{BaseMsg, BaseReply, epoch_in, name_in, opid_in, served}
+use Rattle.tier_types.specs.Serving.{epoch_in, name_in, opid_in, served}
+use Rattle.tier_types.specs.declared.message.BaseMsg.{BaseMsg}
+use Rattle.tier_types.specs.declared.message.BaseReply.{BaseReply}
 use Rattle.pool_keys.specs.Keys.{epoch_key, state_key}
 use Rattle.base_pool.specs.Views.{BaseView, Has}
 use Rattle.base_pool.specs.declared.fault.BaseFault.{BaseFault}
@@ -31,7 +33,8 @@ pub record IsWriteReq (r : Req) : Type 0 where
   pub client_high : r.client ≤ 256
   pub tid : r.tid ≤ number_limit
 
--- a message that can be served: its reading reads, its request writes, its state is within its limits
+-- a message that can be served: its reading reads, its request writes, its state is within its
+-- limits
 abbrev pub IsMsg : BaseMsg → Type 0
 IsMsg (BaseMsg.Fence e) = Unit {0}
 IsMsg (BaseMsg.GetChunk e op name at) = Unit {0}
@@ -64,9 +67,11 @@ state_put (Some name) (Some s) = Put (state_key name) (state_bytes s) ∷ []
 -- what a message changes of a base at this epoch with this state of its name: at most one key, that
 -- of the epoch or that of the name's state
 abbrev pub changes_by : (have : ℕ) → NameState → BaseMsg → List Change
-changes_by have s msg = epoch_put have (served have s msg).epoch ++ state_put (name_in msg) (served have s msg).put
+changes_by have s msg =
+    epoch_put have (served have s msg).epoch ++ state_put (name_in msg) (served have s msg).put
 
--- nothing changed where there is no change, not even a moment came; else they were made by one commit
+-- nothing changed where there is no change, not even a moment came; else they were made by one
+-- commit
 abbrev pub Makes : List Change → StoreView → StoreView → Type 0
 Makes [] old new = Stays old new
 Makes (c ∷ cs) old new = Made (c ∷ cs) old new
@@ -82,6 +87,11 @@ pub record IsOn (msg : BaseMsg) (old : BaseView) (s : NameState) : Type 0 where
   pub lawful : IsState s
   pub read : is_taken old.epoch msg ≡ true → Holds old.store (HasFor msg s)
 
+-- a state that is put has a spelling, and it is that which is put
+abbrev pub IsSpelled : Option NameState → Type 0
+IsSpelled None = Unit {0}
+IsSpelled (Some s) = SpellsState (state_bytes s) s
+
 -- a message was answered: the reply, the epoch and the changes are what serving it makes
 pub record Answers (msg : BaseMsg) (old new : BaseView) (reply : BaseReply) : Type 0 where
   pub state : NameState
@@ -89,6 +99,7 @@ pub record Answers (msg : BaseMsg) (old new : BaseView) (reply : BaseReply) : Ty
   pub told : reply ≡ (served old.epoch state msg).reply
   pub epoch : new.epoch ≡ (served old.epoch state msg).epoch
   pub low : old.epoch ≤ number_limit → new.epoch ≤ number_limit
+  pub spelled : IsSpelled (served old.epoch state msg).put
   pub makes : Makes (changes_by old.epoch state msg) old.store new.store
   pub opened : new.opened ≡ old.opened
 
@@ -96,28 +107,34 @@ pub record Answers (msg : BaseMsg) (old new : BaseView) (reply : BaseReply) : Ty
 pub record Commits (msg : BaseMsg) (old : BaseView) (s : NameState) : Type 0 where
   pub taken : is_taken old.epoch msg ≡ true
   pub on : IsOn msg old s
+  pub low : (served old.epoch s msg).epoch ≤ number_limit
+  pub spelled : IsSpelled (served old.epoch s msg).put
   pub some : changes_by old.epoch s msg ≢ []
 
 -- the commit that a message needed found no room
-pub record LacksRoom (msg : BaseMsg) (old new : BaseView) (epoch opid : ℕ) (lack : Lack) : Type 0 where
+pub record LacksRoom (msg : BaseMsg) (old new : BaseView) (e op : ℕ) (lack : Lack) : Type 0 where
   pub state : NameState
   pub commits : Commits msg old state
   pub lacks : Lacks old.store (changes_by old.epoch state msg) (Some lack)
-  pub epoch_is : epoch ≡ epoch_in msg
-  pub opid_is : opid ≡ opid_in msg
+  pub epoch_is : e ≡ epoch_in msg
+  pub opid_is : op ≡ opid_in msg
   pub stays : StaysBase old new
 
 -- what is replied: want of room exactly where the commit that the message needed lacked it
 abbrev pub Replies : BaseMsg → BaseView → BaseView → BaseReply → Type 0
 Replies msg old new (BaseReply.Fenced e) = Answers msg old new (BaseReply.Fenced e)
 Replies msg old new (BaseReply.Chunk e op chunk) = Answers msg old new (BaseReply.Chunk e op chunk)
-Replies msg old new (BaseReply.Looked e op looked) = Answers msg old new (BaseReply.Looked e op looked)
+Replies msg old new (BaseReply.Looked e op looked) =
+    Answers msg old new (BaseReply.Looked e op looked)
 Replies msg old new (BaseReply.Wrote e op acted) = Answers msg old new (BaseReply.Wrote e op acted)
-Replies msg old new (BaseReply.Installed e op seq) = Answers msg old new (BaseReply.Installed e op seq)
+Replies msg old new (BaseReply.Installed e op seq) =
+    Answers msg old new (BaseReply.Installed e op seq)
 Replies msg old new (BaseReply.NoSpace e op used need limit) =
     LacksRoom msg old new e op (record { used = used; need = need; limit = limit })
-Replies msg old new (BaseReply.OldEpoch have got) = Answers msg old new (BaseReply.OldEpoch have got)
-Replies msg old new (BaseReply.NotFenced have got) = Answers msg old new (BaseReply.NotFenced have got)
+Replies msg old new (BaseReply.OldEpoch have got) =
+    Answers msg old new (BaseReply.OldEpoch have got)
+Replies msg old new (BaseReply.NotFenced have got) =
+    Answers msg old new (BaseReply.NotFenced have got)
 
 -- ---- faults
 
@@ -158,13 +175,18 @@ pub record WearsEpoch (msg : BaseMsg) (old new : BaseView) (limit : ℕ) : Type 
   pub limit_is : limit ≡ number_limit
   pub stays : StaysBase old new
 
+-- there was not the memory to serve the message; a refusal takes none
+pub record LacksMemory (msg : BaseMsg) (old new : BaseView) : Type 0 where
+  pub taken : is_taken old.epoch msg ≡ true
+  pub stays : StaysBase old new
+
 -- why a message was not answered
 abbrev pub Faults : BaseMsg → BaseView → BaseView → StoreFault → Type 0
 Faults msg old new store.Disk = FailsReading msg old new ⊎ FailsCommit msg old new
 Faults msg old new (store.BadImage at) = ⊥
 Faults msg old new (store.NoSpace used need limit) = ⊥
 Faults msg old new (store.Worn limit) = WearsEpoch msg old new limit ⊎ WearsStore msg old new limit
-Faults msg old new store.NoMemory = StaysBase old new
+Faults msg old new store.NoMemory = LacksMemory msg old new
 
 -- the value that the map has for a name spells no state
 pub record IsUnreadable (name : List ℕ) (t : Table) : Type 0 where

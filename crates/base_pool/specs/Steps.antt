@@ -6,8 +6,9 @@ use Rattle.store_face.specs.Calls.{ReadFails, Stays}
 use Rattle.store_face.specs.Views.{Holds, Sound, StoreView}
 use Rattle.store_face.specs.declared.fault.StoreFault.{StoreFault}
 use Rattle.store_face.specs.declared.fault.StoreFault.TheVariants as store
-use Rattle.tier_types.specs.Serving.{BaseMsg, BaseReply}
-use Rattle.base_pool.specs.Serves.{IsUnreadable}
+use Rattle.tier_types.specs.declared.message.BaseMsg.{BaseMsg}
+use Rattle.tier_types.specs.declared.message.BaseReply.{BaseReply}
+use Rattle.base_pool.specs.Serves.{IsSpelled, IsUnreadable}
 use Rattle.base_pool.specs.Views.{BaseView, Has}
 use Rattle.base_pool.specs.declared.fault.BaseFault.{BaseFault}
 use Rattle.base_pool.specs.declared.fault.BaseFault.TheVariants.{Store, BadRecord}
@@ -26,19 +27,31 @@ IsKept v (Some k) = IsState k.state × Holds v (Has k.name k.state)
 abbrev pub Finds : List ℕ → StoreView → StoreView → Result NameState BaseFault → Type 0
 Finds name old new (Ok s) = IsState s × Holds old (Has name s) × Stays old new
 Finds name old new (Err (Store fault)) = ReadFails fault old new
-Finds name old new (Err (BadRecord other)) = (other ≡ name) × Holds old (IsUnreadable name) × Stays old new
+Finds name old new (Err (BadRecord other)) =
+    (other ≡ name) × Holds old (IsUnreadable name) × Stays old new
 
 -- the same, with the state kept
 abbrev pub Recalls : List ℕ → StoreView → StoreView → Result Kept BaseFault → Type 0
-Recalls name old new (Ok k) = (k.name ≡ name) × IsState k.state × Holds old (Has name k.state) × Stays old new
+Recalls name old new (Ok k) =
+    (k.name ≡ name) × IsState k.state × Holds old (Has name k.state) × Stays old new
 Recalls name old new (Err (Store fault)) = ReadFails fault old new
-Recalls name old new (Err (BadRecord other)) = (other ≡ name) × Holds old (IsUnreadable name) × Stays old new
+Recalls name old new (Err (BadRecord other)) =
+    (other ≡ name) × Holds old (IsUnreadable name) × Stays old new
 
 -- what bytes spell, or that they spell no state
 abbrev pub Decodes : (NameState → Type 0) → Result (Option NameState) StoreFault → Type 0
 Decodes P (Ok (Some s)) = P s
 Decodes P (Ok None) = (s : NameState) → P s → ⊥
 Decodes P (Err fault) = fault ≡ store.NoMemory
+
+-- the state that a commit puts has a spelling, unless there was no memory for it
+abbrev pub Spells : NameState → Result (Unit {0}) StoreFault → Type 0
+Spells s (Ok done) = IsSpelled (Some s)
+Spells s (Err store.Disk) = IsSpelled (Some s)
+Spells s (Err (store.BadImage at)) = IsSpelled (Some s)
+Spells s (Err (store.NoSpace used need limit)) = IsSpelled (Some s)
+Spells s (Err (store.Worn limit)) = IsSpelled (Some s)
+Spells s (Err store.NoMemory) = Unit {0}
 
 -- a message of another epoch than the base's is refused
 abbrev pub refused_epoch : (have got : ℕ) → Option BaseReply

@@ -39,14 +39,14 @@ pub record SoundBase (v : BaseView) : Type 0 where
 -- ---- how it is written down as a value of contracts
 
 -- the parts of a room, and the room that they make
-abbrev parts_of : Room → ℕ × (ℕ × ℕ)
+abbrev pub parts_of : Room → ℕ × (ℕ × ℕ)
 parts_of (LogRoom limit) = (0, (limit, 0))
 parts_of (BlockRoom blocks area) = (1, (blocks, area))
 
-abbrev room_of : ℕ × (ℕ × ℕ) → Room
+abbrev pub room_of : ℕ × (ℕ × ℕ) → Room
 room_of p = elim (p.0) [ zero ↦ LogRoom p.1.0 | suc k ↦ BlockRoom p.1.0 p.1.1 ]
 
-room_back : (r : Room) → room_of (parts_of r) ≡ r
+pub room_back : (r : Room) → room_of (parts_of r) ≡ r
 room_back (LogRoom limit) = refl
 room_back (BlockRoom blocks area) = refl
 
@@ -55,7 +55,10 @@ coded_base =
     code_by ((Option (List CrashMaps) × (Bool × ℕ)) × (((ℕ × (ℕ × ℕ)) × ℕ) × (ℕ × Bool)))
     (coded× (coded× (coded_option (coded_list coded_crash)) (coded× coded_bool coded_ℕ))
     (coded× (coded× (coded× coded_ℕ (coded× coded_ℕ coded_ℕ)) coded_ℕ) (coded× coded_ℕ coded_bool)))
-    (λ v. ((v.store.moments, (v.store.live, v.store.faults)), ((parts_of v.store.room, v.store.used), (v.epoch, v.opened))))
+    (λ v. (
+      (v.store.moments, (v.store.live, v.store.faults)),
+      ((parts_of v.store.room, v.store.used), (v.epoch, v.opened)),
+    ))
     (λ c. record {
       store = record {
         moments = c.0.0;

@@ -30,7 +30,7 @@ fn decoded(alloc: Global, bytes: &[u8]) -> Result<Option<NameState>, StoreFault>
 }
 
 // The state of a name, from the store.
-#[tactic(auto, using(crate::proofs::Found::find_none, crate::proofs::Found::find_some, crate::proofs::Found::find_wrong, crate::proofs::Found::find_memory, crate::proofs::Later::stays_same))]
+#[tactic(auto, using(crate::proofs::Found::find_rules))]
 fn find_state<P: Store>(alloc: Global, store: &mut P, name: &Name) -> Result<NameState, BaseFault>
     requires live { (P.state store.old).live ≡ true }
     requires sound { Sound (P.state store.old) }

@@ -11,10 +11,15 @@ mod base;
 mod fault;
 mod kept;
 mod kinds;
+mod laws;
 mod opening;
 mod putting;
 mod refusing;
 
 pub use base::Base;
 pub use fault::BaseFault;
+pub use laws::{
+    chunks_gather, lower_install_leaves, nothing_falls, old_is_refused, readings_leave,
+    stops_between, writes_once,
+};
 pub use tier_types::{BaseActed, BaseMsg, BaseReply};

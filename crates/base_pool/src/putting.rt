@@ -7,7 +7,7 @@ ghost use Rattle.pool_keys.specs.Keys.{epoch_key};
 ghost use Rattle.store_face.specs.Calls.{Committed};
 ghost use Rattle.store_face.specs.Views.{Sound};
 ghost use Rattle.base_pool.specs.Serves.{state_put};
-ghost use Rattle.base_pool.specs.Steps.{refused_by};
+ghost use Rattle.base_pool.specs.Steps.{Spells, refused_by};
 
 use crate::BaseFault;
 use obj_model::{Bytes, Change, Name, NameState};
@@ -18,7 +18,7 @@ use store_face::{Store, StoreFault};
 use tier_types::BaseReply;
 
 /// Puts a name's state into the store.
-#[tactic(auto, using(crate::proofs::Puts::state_txn, crate::proofs::Puts::state_committed, crate::proofs::Later::stays_same))]
+#[tactic(auto, using(crate::proofs::Puts::state_rules))]
 pub(crate) fn put_state<P: Store>(
     alloc: Global,
     store: &mut P,
@@ -28,7 +28,9 @@ pub(crate) fn put_state<P: Store>(
     requires live { (P.state store.old).live ≡ true }
     requires sound { Sound (P.state store.old) }
     requires lawful { IsState state.now }
-    ensures put { Committed (state_put (Some name.now) (Some state.now)) (P.state store.old) (P.state store.new) result }
+    ensures put { Committed (state_put (Some name.now) (Some state.now)) (P.state store.old)
+        (P.state store.new) result }
+    ensures spelled { Spells state.now result }
     ensures sound { Sound (P.state store.new) }
 {
     let key = state_key(alloc, name)?;
@@ -37,7 +39,7 @@ pub(crate) fn put_state<P: Store>(
 }
 
 /// Puts the epoch into the store.
-#[tactic(auto, using(crate::proofs::Puts::epoch_txn, crate::proofs::Puts::epoch_committed, crate::proofs::Later::stays_same))]
+#[tactic(auto, using(crate::proofs::Puts::epoch_rules))]
 pub(crate) fn put_epoch<P: Store>(
     alloc: Global,
     store: &mut P,
@@ -47,7 +49,8 @@ pub(crate) fn put_epoch<P: Store>(
     requires sound { Sound (P.state store.old) }
     requires least { 1 ≤ epoch }
     requires most { epoch ≤ 2 ^ 62 }
-    ensures put { Committed (Put epoch_key (big_bytes 8 epoch) ∷ []) (P.state store.old) (P.state store.new) result }
+    ensures put { Committed (Put epoch_key (big_bytes 8 epoch) ∷ []) (P.state store.old)
+        (P.state store.new) result }
     ensures sound { Sound (P.state store.new) }
 {
     let key = epoch_key(alloc)?;

@@ -34,3 +34,6 @@ epoch_out bytes number read out epoch h =
 pub epoch_one : EpochIsOne
 epoch_one None a b h k = h ∙ sym k
 epoch_one (Some bytes) a b h k = some_is a b (sym (again bytes a h) ∙ again bytes b k)
+
+-- what the reading of an epoch rests on
+pub ruleset epoch_rules = (epoch_found, epoch_none, epoch_out)

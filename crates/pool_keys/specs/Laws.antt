@@ -40,11 +40,13 @@ EpochIsOne = (value : Option (List ℕ)) (a b : ℕ) → IsEpochOf value a → I
 
 -- the base has one state of a name
 abbrev pub StateIsOne : Type 0
-StateIsOne = (value : Option (List ℕ)) (s t : NameState) → IsStateOf value s → IsStateOf value t → s ≡ t
+StateIsOne =
+    (value : Option (List ℕ)) (s t : NameState) → IsStateOf value s → IsStateOf value t → s ≡ t
 
 -- the cache has one record of a name, or none
 abbrev pub RecordIsOne : Type 0
-RecordIsOne = (value : Option (List ℕ)) (r q : Option TierRec) → IsRecOf value r → IsRecOf value q → r ≡ q
+RecordIsOne =
+    (value : Option (List ℕ)) (r q : Option TierRec) → IsRecOf value r → IsRecOf value q → r ≡ q
 
 -- a base's map stands for a plain store at an epoch
 pub record StandsForBase (y : Table) : Type 0 where
@@ -63,7 +65,8 @@ SameStates base other = (name : List ℕ) → state_of base name ≡ state_of ot
 -- a base's map stands for one store, at one epoch
 abbrev pub BaseIsOne : Type 0
 BaseIsOne =
-    (y : Table) (base other : Store) (epoch later : ℕ) → SpellsBase y base epoch → SpellsBase y other later
+    (y : Table) (base other : Store) (epoch later : ℕ) → SpellsBase y base epoch
+    → SpellsBase y other later
     → SameStates base other × (epoch ≡ later)
 
 -- a cache's map stands for records at an epoch
@@ -79,7 +82,8 @@ CacheStands = (x : Table) → IsCacheMap x → StandsForCache x
 -- a cache's map stands for one map of records, at one epoch
 abbrev pub CacheIsOne : Type 0
 CacheIsOne =
-    (x : Table) (recs others : Recs) (epoch later : ℕ) → SpellsCache x recs epoch → SpellsCache x others later
+    (x : Table) (recs others : Recs) (epoch later : ℕ) → SpellsCache x recs epoch
+    → SpellsCache x others later
     → (recs ≡ others) × (epoch ≡ later)
 
 -- ---- what a stop may leave
@@ -106,11 +110,17 @@ LeftByCommit changes old (Err NoMemory) t = IsLeft old t
 abbrev pub CommitsLeave : Type 0
 CommitsLeave =
     (changes : List Change) (old new : StoreView) (result : Result (Unit {0}) StoreFault)
-    → Committed changes old new result → (t : Table) → IsLeftSince old new t → LeftByCommit changes old result t
+    → Committed changes old new result → (t : Table) → IsLeftSince old new t
+    → LeftByCommit changes old result t
 
 abbrev pub DoneLeaves : Type 0
 DoneLeaves =
-    (changes : List Change) (old new : StoreView) → Made changes old new → (t : Table) → IsLeft new t → IsChanged changes old t
+    (changes : List Change) (old new : StoreView) → Made changes old new → (t : Table)
+    → IsLeft new t → IsChanged changes old t
+
+-- what a reading gives
+abbrev pub Reading : Type 0
+Reading = Result (Option (List ℕ)) StoreFault
 
 -- a reading gave the value of each map that is left; one that failed says nothing of it
 abbrev pub GaveOf : List ℕ → Result (Option (List ℕ)) StoreFault → Table → Type 0
@@ -118,7 +128,7 @@ GaveOf key (Ok value) t = value ≡ fin.get t key
 GaveOf key (Err fault) t = Unit {0}
 
 -- a reading leaves the moments
-pub record LeftByReading (key : List ℕ) (old new : StoreView) (result : Result (Option (List ℕ)) StoreFault) : Type 0 where
+pub record LeftByReading (key : List ℕ) (old new : StoreView) (result : Reading) : Type 0 where
   pub same : new.moments ≡ old.moments
   pub since : (t : Table) → IsLeftSince old new t → IsLeft old t
   pub gave : (t : Table) → IsBefore old t → GaveOf key result t
@@ -147,4 +157,6 @@ abbrev pub LiveHasOne : Type 0
 LiveHasOne = (v : StoreView) → Sound v → v.live ≡ true → HasOneMap v
 
 abbrev pub TellsOn : Type 0
-TellsOn = (old new : StoreView) (more : List CrashMaps) → new.moments ≡ grown old.moments more → Tells new ↔ Tells old
+TellsOn =
+    (old new : StoreView) (more : List CrashMaps) → new.moments ≡ grown old.moments more
+    → Tells new ↔ Tells old

@@ -41,7 +41,9 @@ pub record IsStateEntry (key value : List ℕ) : Type 0 where
 
 -- each key and each value of a base's map is a spelling
 abbrev pub IsBaseMap : Table → Type 0
-IsBaseMap y = (key value : List ℕ) → fin.get y key ≡ Some value → IsEpochEntry key value ⊎ IsStateEntry key value
+IsBaseMap y =
+    (key value : List ℕ) → fin.get y key ≡ Some value → IsEpochEntry key value
+    ⊎ IsStateEntry key value
 
 -- a value under the key of a name in the cache that spells a record
 pub record IsRecordEntry (key value : List ℕ) : Type 0 where
@@ -52,4 +54,6 @@ pub record IsRecordEntry (key value : List ℕ) : Type 0 where
 
 -- each key and each value of a cache's map is a spelling
 abbrev pub IsCacheMap : Table → Type 0
-IsCacheMap x = (key value : List ℕ) → fin.get x key ≡ Some value → IsEpochEntry key value ⊎ IsRecordEntry key value
+IsCacheMap x =
+    (key value : List ℕ) → fin.get x key ≡ Some value → IsEpochEntry key value
+    ⊎ IsRecordEntry key value

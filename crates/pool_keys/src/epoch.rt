@@ -30,7 +30,7 @@ fn number_of(bytes: &[u8]) -> Option<u64>
 
 /// The epoch that the bytes, all of them, spell, or nothing where they spell none. It takes no
 /// memory.
-#[tactic(auto, using(crate::proofs::Epochs::epoch_found, crate::proofs::Epochs::epoch_none, crate::proofs::Epochs::epoch_out))]
+#[tactic(auto, using(crate::proofs::Epochs::epoch_rules))]
 pub fn read_epoch(bytes: &[u8]) -> Option<u64>
     ensures found { IfSome result (SpellsEpoch bytes.now) }
     ensures none { IfNone result ((epoch : ℕ) → SpellsEpoch bytes.now epoch → ⊥) }

@@ -69,7 +69,8 @@ pub fn record_key(alloc: Global, name: &Name) -> Result<Bytes, NoMemory>
 
 // The name that bytes are, if they are one.
 fn name_in(alloc: Global, bytes: &[u8]) -> Result<Option<Name>, NoMemory>
-    ensures found { IfOk result (λ o. IfSome o (λ name. (name ≡ bytes.now) × (name_fault bytes.now ≡ None))) }
+    ensures found { IfOk result (λ o. IfSome o (λ name. (name ≡ bytes.now)
+        × (name_fault bytes.now ≡ None))) }
     ensures none { IfOk result (λ o. IfNone o (name_fault bytes.now ≡ None → ⊥)) }
 {
     match Name::new(Vec::from_slice(alloc, bytes)?) {

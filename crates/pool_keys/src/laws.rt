@@ -7,7 +7,8 @@ pub fn key_is_one()
     ensures { KeyIsOne }
 {}
 
-/// Keys of names rise as the names do, and the key of the epoch is below all of them: so the keys of
+/// Keys of names rise as the names do, and the key of the epoch is below all of them: so the keys
+/// of
 /// a map, in their order, bring the names in theirs.
 #[tactic(auto, using(crate::proofs::Keys::rise))]
 pub fn keys_rise()

@@ -1,4 +1,5 @@
-//! What the maps of the two pools spell: their keys, the values under them, and each map as a whole;
+//! What the maps of the two pools spell: their keys, the values under them, and each map as a
+//! whole;
 //! and what a stop may leave of a store.
 //!
 //! A pool's epoch stands under the letter E, a name's state in the base under N and the name, a

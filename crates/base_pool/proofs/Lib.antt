@@ -1,0 +1,11 @@
+pub mod Later
+pub mod Found
+pub mod Puts
+pub mod Readings
+pub mod Acting
+pub mod Fences
+pub mod Taking
+pub mod Sounding
+pub mod Outcomes
+pub mod Words
+pub mod Falling
