@@ -137,6 +137,14 @@ pub record SpellsTier (bytes : List ℕ) (s : NameState) (dirty : Bool) (mtime :
   pub timed : mtime < 2 ^ 64
   pub spelled : bytes ≡ tier_bytes s dirty mtime
 
+-- a record's state, its mark and its moment
+abbrev pub TierParts : Type 0
+TierParts = NameState × Bool × ℕ
+
+-- the bytes, all of them, spell the record of these parts
+abbrev pub SpellsParts : List ℕ → TierParts → Type 0
+SpellsParts bytes r = SpellsTier bytes r.0 r.1 r.2
+
 -- ---- requests
 
 -- the tag of a sub-operation
@@ -231,3 +239,11 @@ txn_bytes cs = big_bytes 1 (length cs) ++ flat_map change cs
 pub record SpellsTxn (bytes : List ℕ) (cs : List Change) : Type 0 where
   pub lawful : IsTxn cs
   pub spelled : bytes ≡ txn_bytes cs
+
+-- ---- one spelling each
+
+-- no two values have one spelling, and no spelling begins another
+abbrev pub HaveOneSpelling : {A : Type 0} → (List ℕ → A → Type 0) → Type 0
+HaveOneSpelling {A} Spells =
+    (x y : A) (a b more others : List ℕ) → Spells a x → Spells b y → a ++ more ≡ b ++ others
+    → (x ≡ y) × (more ≡ others)
