@@ -9,8 +9,6 @@ mod laws;
 pub mod put;
 mod reading;
 mod replies;
-#[cfg(test)]
-mod tests;
 mod tier;
 mod txn;
 mod writing;
