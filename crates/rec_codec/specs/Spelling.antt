@@ -1,4 +1,5 @@
--- How records are spelled as bytes, and which values have a spelling. Numbers stand with their highest byte first.
+-- How records are spelled as bytes, and which values have a spelling. Numbers stand with their
+-- highest byte first.
 use Rattle.std.specs.Prelude.{◌≡◌, ◌<◌, ◌≤◌, ℕ, ◌^◌, Bool, true, false, List, [], ◌∷◌, ◌++◌, map, Option, Some, None, length, All}
 use Rattle.std.specs.List.{flat_map, AllByRecursion}
 use Rattle.std.specs.FinMap as fin
@@ -121,7 +122,7 @@ pub record SpellsState (bytes : List ℕ) (s : NameState) : Type 0 where
 
 -- ---- records of the cache
 
--- whether a record is dirty
+-- the mark of a record: 1 where it is dirty
 abbrev pub mark : Bool → ℕ
 mark false = 0
 mark true = 1
@@ -189,10 +190,14 @@ field_bytes (f ∷ g ∷ more) = field f ++ field_bytes (g ∷ more)
 abbrev pub sub_op : SubOp → List ℕ
 sub_op o = tag o ∷ field_bytes (fields o)
 
--- the spelling of a request: who asks, the name, the number of its sub-operations, and these
+-- the number of sub-operations, and these
+abbrev pub ops_bytes : List SubOp → List ℕ
+ops_bytes ops = big_bytes 1 (length ops) ++ flat_map sub_op ops
+
+-- the spelling of a request: who asks, the name, and its sub-operations
 abbrev pub req_bytes : Req → List ℕ
 req_bytes r =
-    big_bytes 2 r.client ++ (big_bytes 8 r.tid ++ (name r.name ++ (big_bytes 1 (length r.vector) ++ flat_map sub_op r.vector)))
+    big_bytes 2 r.client ++ (big_bytes 8 r.tid ++ (name r.name ++ ops_bytes r.vector))
 
 -- a client and a request number within their limits
 pub record IsReq (r : Req) : Type 0 where

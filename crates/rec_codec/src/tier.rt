@@ -1,4 +1,5 @@
-//! Records of the cache: the state of a name, whether it is dirty, and the moment of its last change.
+//! Records of the cache: the state of a name, whether it is dirty, and the moment of its last
+//! change.
 ghost use Rattle.std.specs.Prelude.{◌≡◌, ◌≤◌, ◌++◌, Some, IfOk, IfSome, IfNone, OnOk, length};
 ghost use Rattle.obj_model.specs.States.{IsState};
 ghost use Rattle.rec_codec.specs.Spelling.{mark, tier_bytes, IsTyped, SpellsTier, TierParts, SpellsParts};

@@ -10,21 +10,17 @@ use Rattle.obj_model.specs.Vectors.{vector_fault}
 use Rattle.obj_model.specs.declared.req.Req.{Req}
 use Rattle.obj_model.specs.declared.sub_op.SubOp.{SubOp}
 use Rattle.obj_model.specs.declared.vector.BadVector.{BadVector}
-use Rattle.rec_codec.specs.Spelling.{name, sub_op, req_bytes, IsFit, SpellsReq}
+use Rattle.rec_codec.specs.Spelling.{name, sub_op, ops_bytes, req_bytes, IsFit, SpellsReq}
 use Rattle.rec_codec.specs.Reading.{then_at, if_at, number_at, name_at, whole}
 use Rattle.rec_codec.proofs.Readers.{IsBytes, IsReader, then_reads, behind_reads, if_reads, as_reads, also_reads, Each, each_reads, each_plain, plain_each}
 use Rattle.rec_codec.proofs.BlockLaws.{byte_reads, u16_reads, u64_reads, name_reads}
 use Rattle.rec_codec.proofs.ReplyLaws.{no_value}
 use Rattle.rec_codec.proofs.Whole.{whole_takes, whole_again, apart}
-use Rattle.req_codec.specs.Spelling.{ops_bytes}
-use Rattle.req_codec.specs.Reading.{op_at, ops_at, vector_at, parts_at, req_at}
+use Rattle.req_codec.specs.Reading.{op_at, ops_at, is_vector, vector_at, parts_at, req_at}
 use Rattle.req_codec.proofs.OpLaws.{op_reads}
 use Rattle.req_codec.proofs.Vectors.{vector_few}
 
 -- ---- vectors
-
-abbrev is_vector : List SubOp → Bool
-is_vector ops = not (is_some (vector_fault ops))
 
 -- a vector whose parts are of their types
 abbrev IsSoundVector : List SubOp → Type 0

@@ -10,7 +10,7 @@ use Rattle.obj_model.specs.Vectors.{payload_of, far_place, mixed_place, fault_or
 use Rattle.obj_model.specs.declared.sub_op.SubOp.{SubOp}
 use Rattle.obj_model.specs.declared.vector.BadVector.{BadVector}
 use Rattle.obj_model.specs.declared.vector.BadVector.TheVariants.{Empty, TooMany, Far, Mixed, Heavy}
-use Rattle.req_codec.specs.Spelling.{IsLight}
+use Rattle.req_codec.specs.Steps.{IsLight}
 
 none_else : {A : Type 0} (b : Bool) (x : A) (o : Option A) → cond b (Some x) o ≡ None → (b ≡ false) × (o ≡ None)
 none_else true x o e = absurd cc

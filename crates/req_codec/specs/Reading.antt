@@ -1,5 +1,5 @@
 -- Requests from left to right: a value and the bytes after it, or nothing.
-use Rattle.std.specs.Prelude.{ℕ, ◌^◌, true, not, List, [], ◌∷◌, Option, Some, None, nat_le, is_some, ◌==◌, ◌&&◌, if◌then◌else◌}
+use Rattle.std.specs.Prelude.{ℕ, ◌^◌, Bool, true, not, List, [], ◌∷◌, Option, Some, None, nat_le, is_some, ◌==◌, ◌&&◌, if◌then◌else◌}
 use Rattle.obj_model.specs.Vectors.{vector_fault}
 use Rattle.obj_model.specs.declared.req.Req.{Req}
 use Rattle.obj_model.specs.declared.sub_op.SubOp.{SubOp}
@@ -115,9 +115,13 @@ ops_at = each_at op_at (λ _. tt {0}) (λ _ _. true) tt
 
 -- ---- requests
 
+-- nothing is wrong with sub-operations as a vector
+abbrev pub is_vector : List SubOp → Bool
+is_vector ops = not (is_some (vector_fault ops))
+
 -- sub-operations behind their number, which are a vector
 unfoldable pub vector_at : Reader (List SubOp)
-vector_at = behind_at (number_at 1) (λ n. if_at (ops_at n) (λ ops. not (is_some (vector_fault ops))))
+vector_at = behind_at (number_at 1) (λ n. if_at (ops_at n) is_vector)
 
 -- a client, a request number, a name and a vector
 abbrev pub parts_at : Reader (ℕ × (ℕ × (List ℕ × List SubOp)))

@@ -91,8 +91,7 @@ fn req_or_none(alloc: Global, bytes: &[u8]) -> Result<Option<Req>, NoMemory>
 }
 
 /// The request that the bytes, all of them, spell, or nothing where they spell none. It takes no
-/// more memory than a small multiple of the bytes, whatever they are, and an error is want of memory
-/// alone.
+/// more memory than a small multiple of the bytes, whatever they are; an error is want of memory.
 pub fn read_req(alloc: Global, bytes: &[u8]) -> Result<Option<Req>, NoMemory>
     // What is read is spelled so.
     ensures found { IfOk result (λ o. IfSome o (λ r. SpellsReq bytes.now r)) }

@@ -3,8 +3,8 @@ ghost use Rattle.std.specs.Prelude.{◌≡◌, ◌≤◌, ◌<◌, ◌++◌, All
 ghost use Rattle.obj_model.specs.Fields.{After, fields};
 ghost use Rattle.obj_model.specs.SubOps.{payload};
 ghost use Rattle.obj_model.specs.Vectors.{vector_fault};
-ghost use Rattle.rec_codec.specs.Spelling.{field, field_bytes, sub_op, tag, req_bytes, IsField, IsFit, IsReq, SpellsReq};
-ghost use Rattle.req_codec.specs.Spelling.{ops_bytes, IsLight, IsFitReq};
+ghost use Rattle.rec_codec.specs.Spelling.{field, field_bytes, ops_bytes, sub_op, tag, req_bytes, IsField, IsFit, IsReq, SpellsReq};
+ghost use Rattle.req_codec.specs.Steps.{IsLight, IsFitReq};
 
 use obj_model::{Name, NoMemory, Req, SubOp, Vector};
 use rec_codec::put::{put_name, put_string, put_u16, put_u64};

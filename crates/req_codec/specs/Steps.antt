@@ -1,17 +1,11 @@
 -- What the steps of writing a request put and ask for.
-use Rattle.std.specs.Prelude.{◌≡◌, ◌≤◌, ℕ, List, ◌++◌, length, None, All}
-use Rattle.std.specs.List.{flat_map}
+use Rattle.std.specs.Prelude.{◌≡◌, ◌≤◌, None, All}
 use Rattle.obj_model.specs.Names.{name_fault}
 use Rattle.obj_model.specs.SubOps.{payload}
 use Rattle.obj_model.specs.Vectors.{vector_fault}
 use Rattle.obj_model.specs.declared.req.Req.{Req}
 use Rattle.obj_model.specs.declared.sub_op.SubOp.{SubOp}
-use Rattle.byteorder.specs.Endian.{big_bytes}
-use Rattle.rec_codec.specs.Spelling.{sub_op, IsFit}
-
--- the number of the sub-operations, and these
-abbrev pub ops_bytes : List SubOp → List ℕ
-ops_bytes ops = big_bytes 1 (length ops) ++ flat_map sub_op ops
+use Rattle.rec_codec.specs.Spelling.{IsFit}
 
 -- it carries no more than a vector may
 abbrev pub IsLight : SubOp → Type 0
