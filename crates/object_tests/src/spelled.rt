@@ -109,6 +109,11 @@ pub fn rows_hold(rt: &impl Abort, alloc: Global, kind: Kind, rows: &str) -> Resu
     Ok(())
 }
 
+// A byte in decimal digits.
+fn byte(word: Option<&str>) -> Result<u8, Fail> {
+    Ok(word.ok_or("a byte")?.parse::<u8>().ok().ok_or("a byte")?)
+}
+
 // Rows of a place and a byte that stands there in place of the value's own, with y where that
 // spells a value and n where not, and what it would say.
 pub fn changes_hold(
@@ -121,7 +126,7 @@ pub fn changes_hold(
     for row in rows.lines() {
         let mut words = row.split_whitespace();
         let place = number(words.next().ok_or("a place")?)? as usize;
-        let byte = number(words.next().ok_or("a byte")?)? as u8;
+        let byte = byte(words.next())?;
         let verdict = words.next().ok_or("a verdict")?;
         let mut bytes = Vec::from_slice(alloc, value)?;
         if place < bytes.len() {

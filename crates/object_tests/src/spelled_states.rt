@@ -224,14 +224,24 @@ const SIZES: &str = "1048576 64 1024 4096 256 y
 1 0 1 4097 1 n
 1 1 1 1 257 n";
 
+// A number of two bytes in decimal digits.
+fn small(word: Option<&str>) -> Result<u16, Fail> {
+    Ok(
+        word.ok_or("a number")?
+            .parse::<u16>()
+            .ok()
+            .ok_or("a number")?,
+    )
+}
+
 // The spelling of a state of such sizes, with ver and seq of 2^62.
 fn sized(alloc: Global, row: &str) -> Result<Vec<u8>, Fail> {
     let mut sizes = row.split_whitespace();
-    let body = number(sizes.next().ok_or("a size")?)? as u32;
-    let attrs = number(sizes.next().ok_or("attributes")?)? as u16;
-    let omap = number(sizes.next().ok_or("entries")?)? as u16;
-    let value = number(sizes.next().ok_or("a size")?)? as u16;
-    let clients = number(sizes.next().ok_or("clients")?)? as u16;
+    let body = number(sizes.next().ok_or("a size")?)?.min(2_000_000) as u32;
+    let attrs = small(sizes.next())?;
+    let omap = small(sizes.next())?;
+    let value = small(sizes.next())?;
+    let clients = small(sizes.next())?;
     let mut bytes = hex(alloc, "4000000000000000 4000000000000000 01")?;
     bytes.extend_from_slice(&body.to_be_bytes())?;
     bytes.extend_from_slice(&vec![in alloc; 9u8; body as usize]?)?;
