@@ -18,6 +18,8 @@ mod lying;
 #[cfg(test)]
 mod mem_disks;
 #[cfg(test)]
+mod pool_maps;
+#[cfg(test)]
 mod stops;
 #[cfg(test)]
 mod streams;

@@ -10,6 +10,14 @@ mod limits;
 #[cfg(test)]
 mod requests;
 #[cfg(test)]
+mod spelled;
+#[cfg(test)]
+mod spelled_reqs;
+#[cfg(test)]
+mod spelled_states;
+#[cfg(test)]
+mod spelled_txns;
+#[cfg(test)]
 mod tools;
 #[cfg(test)]
 mod values;

@@ -6,7 +6,5 @@
 
 mod pool;
 mod slots;
-#[cfg(test)]
-mod tests;
 
 pub use pool::PoolMap;

@@ -13,7 +13,7 @@ use Rattle.std.proofs.lemmas.Map.Views.{length-le_from_below}
 use Rattle.std.proofs.lemmas.List.{length-map, take_more, append-nil}
 use Rattle.std.proofs.lemmas.List.Concat.{flat_map-append, flat_map-cons}
 use Rattle.obj_model.specs.declared.reply.Why.TheVariants.{TooBig}
-use Rattle.rec_codec.specs.Spelling.{Entry, why, kept, pair, table, IsNamed}
+use Rattle.rec_codec.specs.Spelling.{Entry, why, pair, table, IsNamed}
 use Rattle.rec_codec.proofs.Tables.{Table}
 
 -- a tag and two pieces
@@ -63,13 +63,11 @@ put_four old v q o k a b c d e f g h =
     h ∙ ap (λ (l : List ℕ). l ++ k) (g ∙ ap (λ (l : List ℕ). l ++ o) (f ∙ ap (λ (l : List ℕ). l ++ q) e))
     ∙ append_assoc ((old ++ v) ++ q) o k ∙ append_assoc (old ++ v) q (o ++ k) ∙ append_assoc old v (q ++ (o ++ k))
 
-flat_map_one : (k : Kept) → flat_map kept (k ∷ []) ≡ kept k
-flat_map_one k = flat_map-cons kept k [] ∙ append-nil (kept k)
-
--- one more kept request is put
-pub one_more_kept : (old out new : List ℕ) (list : List Kept) (i : ℕ) (d : Kept) → i < length list → out ≡ old ++ big_bytes 2 (length list) ++ flat_map kept (take i list) → new ≡ out ++ kept (get_or list i d)
-    → new ≡ old ++ big_bytes 2 (length list) ++ flat_map kept (take (i + 1) list)
-one_more_kept old out new list i d lt e f =
-    f ∙ ap (λ (l : List ℕ). l ++ kept (get_or list i d)) e
-    ∙ append_assoc (old ++ big_bytes 2 (length list)) (flat_map kept (take i list)) (kept (get_or list i d))
-    ∙ ap (λ (l : List ℕ). (old ++ big_bytes 2 (length list)) ++ l) (sym (ap (flat_map kept) (take_more list i d lt) ∙ flat_map-append kept (take i list) (get_or list i d ∷ []) ∙ ap (λ (l : List ℕ). flat_map kept (take i list) ++ l) (flat_map_one (get_or list i d))))
+-- one more value is put behind what is in front and the values so far
+pub one_more : {A : Type 0} (f : A → List ℕ) (old front out new : List ℕ) (list : List A) (i : ℕ) (d : A) → i < length list → out ≡ old ++ front ++ flat_map f (take i list) → new ≡ out ++ f (get_or list i d)
+    → new ≡ old ++ front ++ flat_map f (take (i + 1) list)
+one_more f old front out new list i d lt e g =
+    let one : flat_map f (get_or list i d ∷ []) ≡ f (get_or list i d) = flat_map-cons f (get_or list i d) [] ∙ append-nil (f (get_or list i d)) in
+    g ∙ ap (λ (l : List ℕ). l ++ f (get_or list i d)) e
+    ∙ append_assoc (old ++ front) (flat_map f (take i list)) (f (get_or list i d))
+    ∙ ap (λ (l : List ℕ). (old ++ front) ++ l) (sym (ap (flat_map f) (take_more list i d lt) ∙ flat_map-append f (take i list) (get_or list i d ∷ []) ∙ ap (λ (l : List ℕ). flat_map f (take i list) ++ l) one))

@@ -3,8 +3,7 @@ use Rattle.std.proofs.Common.{◌≡◌, ℕ, zero, suc, ◌^◌, ◌<◌, ◌�
 use Rattle.std.specs.Prelude.{IfSome, IfNone}
 use Rattle.std.proofs.lemmas.Bool.{leb-true}
 use Rattle.byteorder.specs.Endian.{big_bytes}
-use Rattle.obj_model.specs.declared.state.NameState.{NameState}
-use Rattle.rec_codec.specs.Spelling.{state_bytes, mark, tier_bytes, SpellsTier}
+use Rattle.rec_codec.specs.Spelling.{state_bytes, mark, tier_bytes, TierParts, SpellsParts, HaveOneSpelling}
 use Rattle.rec_codec.specs.Reading.{then_at, if_at, number_at, state_at, mark_at, tier_at, whole}
 use Rattle.rec_codec.proofs.Readers.{IsBytes, IsReader, then_reads, if_reads, as_reads}
 use Rattle.rec_codec.proofs.BlockLaws.{byte_reads, u64_reads}
@@ -27,15 +26,11 @@ mark_reads = as_reads (if_at (number_at 1) (λ n. leb n 1)) (λ n. eqb n 1) mark
     (if_reads (number_at 1) (λ n. leb n 1) (big_bytes 1) (λ n. n < 256 ^ 1) byte_reads)
     (λ n h. (tt, mark_back n (leb-true _ _ h.1))) (λ b h. mark_again b)
 
--- a state, whether it is dirty, and a moment
-abbrev pub Parts : Type 0
-Parts = NameState × Bool × ℕ
-
 -- a record within its limits
-abbrev pub IsSoundTier : Parts → Type 0
+abbrev pub IsSoundTier : TierParts → Type 0
 IsSoundTier r = IsSound r.0 × (Unit {0} × (r.2 < 256 ^ 8))
 
-abbrev spelled_parts : Parts → List ℕ
+abbrev spelled_parts : TierParts → List ℕ
 spelled_parts r = state_bytes r.0 ++ (big_bytes 1 (mark r.1) ++ big_bytes 8 r.2)
 
 pub tier_reads : IsReader tier_at spelled_parts IsSoundTier
@@ -50,31 +45,30 @@ mark_byte : (b : Bool) → big_bytes 1 (mark b) ≡ mark b ∷ []
 mark_byte false = refl
 mark_byte true = refl
 
-tier_spelled : (s : NameState) (dirty : Bool) (mtime : ℕ) → spelled_parts (s, dirty, mtime) ≡ tier_bytes s dirty mtime
-tier_spelled s dirty mtime = ap (λ (l : List ℕ). state_bytes s ++ (l ++ big_bytes 8 mtime)) (mark_byte dirty)
+tier_spelled : (r : TierParts) → spelled_parts r ≡ tier_bytes r.0 r.1 r.2
+tier_spelled r = ap (λ (l : List ℕ). state_bytes r.0 ++ (l ++ big_bytes 8 r.2)) (mark_byte r.1)
 
-tier_sound : (bytes : List ℕ) (s : NameState) (dirty : Bool) (mtime : ℕ) → SpellsTier bytes s dirty mtime → IsSoundTier (s, dirty, mtime)
-tier_sound bytes s dirty mtime h = let timed = h.timed in (state_sound s h.lawful h.typed, (tt, omega arith))
+tier_sound : (bytes : List ℕ) (r : TierParts) → SpellsParts bytes r → IsSoundTier r
+tier_sound bytes r h = let timed = h.timed in (state_sound r.0 h.lawful h.typed, (tt, omega arith))
 
-pub only_tier : (bytes : List ℕ) (s : NameState) (dirty : Bool) (mtime : ℕ) → SpellsTier bytes s dirty mtime → whole tier_at bytes ≡ Some (s, dirty, mtime)
-only_tier bytes s dirty mtime h =
-    ap (λ (l : List ℕ). whole tier_at l) (h.spelled ∙ sym (tier_spelled s dirty mtime))
-    ∙ whole_again tier_at spelled_parts IsSoundTier tier_reads (s, dirty, mtime) (tier_sound bytes s dirty mtime h)
+pub only_tier : (bytes : List ℕ) (r : TierParts) → SpellsParts bytes r → whole tier_at bytes ≡ Some r
+only_tier bytes r h =
+    ap (λ (l : List ℕ). whole tier_at l) (h.spelled ∙ sym (tier_spelled r))
+    ∙ whole_again tier_at spelled_parts IsSoundTier tier_reads r (tier_sound bytes r h)
 
-pub tier_found : (bytes : List ℕ) (o : Option Parts) → IsBytes bytes → o ≡ whole tier_at bytes → IfSome o (λ r. SpellsTier bytes r.0 r.1 r.2)
+pub tier_found : (bytes : List ℕ) (o : Option TierParts) → IsBytes bytes → o ≡ whole tier_at bytes → IfSome o (λ r. SpellsParts bytes r)
 tier_found bytes None fits e = tt
 tier_found bytes (Some r) fits e =
     let t = whole_takes tier_at spelled_parts IsSoundTier tier_reads bytes r fits (sym e) in
     let h = state_lawful r.0 t.0.0 in
     let late = t.0.1.1 in
-    record { lawful = h.0; typed = h.1; timed = omega arith; spelled = t.1 ∙ tier_spelled r.0 r.1 r.2 }
+    record { lawful = h.0; typed = h.1; timed = omega arith; spelled = t.1 ∙ tier_spelled r }
 
-pub tier_none : (bytes : List ℕ) (o : Option Parts) → o ≡ whole tier_at bytes → IfNone o ((s : NameState) (dirty : Bool) (mtime : ℕ) → SpellsTier bytes s dirty mtime → ⊥)
-tier_none bytes None e = λ s dirty mtime h. no_value (s, dirty, mtime) (e ∙ only_tier bytes s dirty mtime h)
+pub tier_none : (bytes : List ℕ) (o : Option TierParts) → o ≡ whole tier_at bytes → IfNone o ((r : TierParts) → SpellsParts bytes r → ⊥)
+tier_none bytes None e = λ r h. no_value r (e ∙ only_tier bytes r h)
 tier_none bytes (Some r) e = tt
 
-pub tiers_apart : (s t : NameState) (d e : Bool) (m n : ℕ) (a b more others : List ℕ) → SpellsTier a s d m → SpellsTier b t e n → a ++ more ≡ b ++ others → (s ≡ t) × (d ≡ e) × (m ≡ n) × (more ≡ others)
-tiers_apart s t d e m n a b more others p q same =
-    let r = apart tier_at spelled_parts IsSoundTier tier_reads (s, d, m) (t, e, n) more others (tier_sound a s d m p) (tier_sound b t e n q)
-    (ap (λ (l : List ℕ). l ++ more) (tier_spelled s d m ∙ sym p.spelled) ∙ same ∙ ap (λ (l : List ℕ). l ++ others) (q.spelled ∙ sym (tier_spelled t e n))) in
-    (ap (λ (z : Parts). z.0) r.0, ap (λ (z : Parts). z.1) r.0, ap (λ (z : Parts). z.2) r.0, r.1)
+pub tiers_apart : HaveOneSpelling SpellsParts
+tiers_apart r s a b more others p q same =
+    apart tier_at spelled_parts IsSoundTier tier_reads r s more others (tier_sound a r p) (tier_sound b s q)
+    (ap (λ (l : List ℕ). l ++ more) (tier_spelled r ∙ sym p.spelled) ∙ same ∙ ap (λ (l : List ℕ). l ++ others) (q.spelled ∙ sym (tier_spelled s)))

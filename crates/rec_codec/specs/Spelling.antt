@@ -1,4 +1,5 @@
--- How records are spelled as bytes, and which values have a spelling. Numbers stand with their highest byte first.
+-- How records are spelled as bytes, and which values have a spelling. Numbers stand with their
+-- highest byte first.
 use Rattle.std.specs.Prelude.{◌≡◌, ◌<◌, ◌≤◌, ℕ, ◌^◌, Bool, true, false, List, [], ◌∷◌, ◌++◌, map, Option, Some, None, length, All}
 use Rattle.std.specs.List.{flat_map, AllByRecursion}
 use Rattle.std.specs.FinMap as fin
@@ -121,7 +122,7 @@ pub record SpellsState (bytes : List ℕ) (s : NameState) : Type 0 where
 
 -- ---- records of the cache
 
--- whether a record is dirty
+-- the mark of a record: 1 where it is dirty
 abbrev pub mark : Bool → ℕ
 mark false = 0
 mark true = 1
@@ -136,6 +137,14 @@ pub record SpellsTier (bytes : List ℕ) (s : NameState) (dirty : Bool) (mtime :
   pub typed : IsTyped s
   pub timed : mtime < 2 ^ 64
   pub spelled : bytes ≡ tier_bytes s dirty mtime
+
+-- a record's state, its mark and its moment
+abbrev pub TierParts : Type 0
+TierParts = NameState × Bool × ℕ
+
+-- the bytes, all of them, spell the record of these parts
+abbrev pub SpellsParts : List ℕ → TierParts → Type 0
+SpellsParts bytes r = SpellsTier bytes r.0 r.1 r.2
 
 -- ---- requests
 
@@ -181,10 +190,14 @@ field_bytes (f ∷ g ∷ more) = field f ++ field_bytes (g ∷ more)
 abbrev pub sub_op : SubOp → List ℕ
 sub_op o = tag o ∷ field_bytes (fields o)
 
--- the spelling of a request: who asks, the name, the number of its sub-operations, and these
+-- the number of sub-operations, and these
+abbrev pub ops_bytes : List SubOp → List ℕ
+ops_bytes ops = big_bytes 1 (length ops) ++ flat_map sub_op ops
+
+-- the spelling of a request: who asks, the name, and its sub-operations
 abbrev pub req_bytes : Req → List ℕ
 req_bytes r =
-    big_bytes 2 r.client ++ (big_bytes 8 r.tid ++ (name r.name ++ (big_bytes 1 (length r.vector) ++ flat_map sub_op r.vector)))
+    big_bytes 2 r.client ++ (big_bytes 8 r.tid ++ (name r.name ++ ops_bytes r.vector))
 
 -- a client and a request number within their limits
 pub record IsReq (r : Req) : Type 0 where
@@ -231,3 +244,11 @@ txn_bytes cs = big_bytes 1 (length cs) ++ flat_map change cs
 pub record SpellsTxn (bytes : List ℕ) (cs : List Change) : Type 0 where
   pub lawful : IsTxn cs
   pub spelled : bytes ≡ txn_bytes cs
+
+-- ---- one spelling each
+
+-- no two values have one spelling, and no spelling begins another
+abbrev pub HaveOneSpelling : {A : Type 0} → (List ℕ → A → Type 0) → Type 0
+HaveOneSpelling {A} Spells =
+    (x y : A) (a b more others : List ℕ) → Spells a x → Spells b y → a ++ more ≡ b ++ others
+    → (x ≡ y) × (more ≡ others)

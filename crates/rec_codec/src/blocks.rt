@@ -1,5 +1,5 @@
-//! The blocks of records as they are read: numbers, bytes and names. Each stands at the front, and the bytes after it
-//! are given with it.
+//! The blocks of records as they are read: numbers, bytes and names. Each stands at the front, and
+//! the bytes after it are given with it.
 //!
 //! A length is compared with what is left before memory is taken.
 ghost use Rattle.std.specs.Prelude.{◌≡◌, IfOk};

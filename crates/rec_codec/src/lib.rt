@@ -1,6 +1,7 @@
 //! The one spelling of states, records of the cache and transactions as bytes.
 //!
-//! A writer gives the spelling of its value, and a reader gives the value that the bytes, all of them, spell.
+//! A writer gives the spelling of its value, and a reader gives the value that the bytes, all of
+//! them, spell. The blocks of the spellings are there for other crates too.
 #![tactic(auto)]
 
 pub mod blocks;
@@ -9,8 +10,6 @@ mod laws;
 pub mod put;
 mod reading;
 mod replies;
-#[cfg(test)]
-mod tests;
 mod tier;
 mod txn;
 mod writing;

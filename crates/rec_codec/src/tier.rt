@@ -1,8 +1,8 @@
-//! Records of the cache: the state of a name, whether it is dirty, and the moment of its last change.
-ghost use Rattle.std.specs.Prelude.{◌≡◌, ◌≤◌, ◌++◌, Bool, Some, IfOk, IfSome, IfNone, OnOk, length, ℕ};
+//! Records of the cache: the state of a name, whether it is dirty, and the moment of its last
+//! change.
+ghost use Rattle.std.specs.Prelude.{◌≡◌, ◌≤◌, ◌++◌, Some, IfOk, IfSome, IfNone, OnOk, length};
 ghost use Rattle.obj_model.specs.States.{IsState};
-ghost use Rattle.obj_model.specs.declared.state.NameState.{NameState};
-ghost use Rattle.rec_codec.specs.Spelling.{mark, tier_bytes, IsTyped, SpellsTier};
+ghost use Rattle.rec_codec.specs.Spelling.{mark, tier_bytes, IsTyped, SpellsTier, TierParts, SpellsParts};
 ghost use Rattle.rec_codec.specs.Reading.{Gives, mark_at, tier_at, whole};
 
 use crate::blocks::{u8_at, u64_at};
@@ -63,11 +63,11 @@ fn tier_or_none(alloc: Global, bytes: &[u8]) -> Result<Option<(NameState, bool, 
 /// of the bytes, whatever they are, and an error is want of memory alone.
 pub fn read_tier(alloc: Global, bytes: &[u8]) -> Result<Option<(NameState, bool, u64)>, NoMemory>
     // What is read is spelled so.
-    ensures found { IfOk result (λ o. IfSome o (λ r. SpellsTier bytes.now r.0 r.1 r.2)) }
+    ensures found { IfOk result (λ o. IfSome o (λ r. SpellsParts bytes.now r)) }
     // What is spelled so is read.
-    ensures only { (s : NameState) (dirty : Bool) (mtime : ℕ) → SpellsTier bytes.now s dirty mtime → IfOk result (λ o. o ≡ Some (s, dirty, mtime)) }
+    ensures only { (r : TierParts) → SpellsParts bytes.now r → IfOk result (λ o. o ≡ Some r) }
     // Nothing is read only where nothing is spelled.
-    ensures none { IfOk result (λ o. IfNone o ((s : NameState) (dirty : Bool) (mtime : ℕ) → SpellsTier bytes.now s dirty mtime → ⊥)) }
+    ensures none { IfOk result (λ o. IfNone o ((r : TierParts) → SpellsParts bytes.now r → ⊥)) }
 {
     tier_or_none(alloc, bytes)
 }

@@ -1,0 +1,4 @@
+pub mod FieldLaws
+pub mod OpLaws
+pub mod Vectors
+pub mod ReqLaws
