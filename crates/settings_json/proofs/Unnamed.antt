@@ -84,80 +84,80 @@ not_both b free is = absurd (true≢false (sym is ∙ free))
 -- one member keeps what it does not name
 one : (k : List ℕ) (d : Data) (v u : PoolValues) → with_value k d v ≡ Ok u → KeepsUnnamed (member k d no_members) v u
 one k d v u e = record {
-    hit_set_type = λ free. all_rows (λ w. w.hit_set_type) k d v u e
+  hit_set_type = λ free. all_rows (λ w. w.hit_set_type) k d v u e
       (λ is. not_both (bytes_eq k (codes "hit_set_type")) (neither (bytes_eq k (codes "hit_set_type")) false free).0 is) (λ _ a. refl) (λ _ a. refl) (λ _ a. refl) (λ _ a. refl) (λ _ a. refl) (λ _ a. refl) (λ _ a. refl) (λ _ a. refl) (λ _ a. refl) (λ _ a. refl) (λ _ a. refl) (λ _ a. refl) (λ _ a. refl) (λ _ a. refl) (λ _ a. refl);
-    hit_set_count = λ free. all_rows (λ w. w.hit_set_count) k d v u e
+  hit_set_count = λ free. all_rows (λ w. w.hit_set_count) k d v u e
       (λ _ a. refl) (λ is. not_both (bytes_eq k (codes "hit_set_count")) (neither (bytes_eq k (codes "hit_set_count")) false free).0 is) (λ _ a. refl) (λ _ a. refl) (λ _ a. refl) (λ _ a. refl) (λ _ a. refl) (λ _ a. refl) (λ _ a. refl) (λ _ a. refl) (λ _ a. refl) (λ _ a. refl) (λ _ a. refl) (λ _ a. refl) (λ _ a. refl) (λ _ a. refl);
-    hit_set_period = λ free. all_rows (λ w. w.hit_set_period) k d v u e
+  hit_set_period = λ free. all_rows (λ w. w.hit_set_period) k d v u e
       (λ _ a. refl) (λ _ a. refl) (λ is. not_both (bytes_eq k (codes "hit_set_period")) (neither (bytes_eq k (codes "hit_set_period")) false free).0 is) (λ _ a. refl) (λ _ a. refl) (λ _ a. refl) (λ _ a. refl) (λ _ a. refl) (λ _ a. refl) (λ _ a. refl) (λ _ a. refl) (λ _ a. refl) (λ _ a. refl) (λ _ a. refl) (λ _ a. refl) (λ _ a. refl);
-    hit_set_fpp = λ free. all_rows (λ w. w.hit_set_fpp) k d v u e
+  hit_set_fpp = λ free. all_rows (λ w. w.hit_set_fpp) k d v u e
       (λ _ a. refl) (λ _ a. refl) (λ _ a. refl) (λ is. not_both (bytes_eq k (codes "hit_set_fpp")) (neither (bytes_eq k (codes "hit_set_fpp")) false free).0 is) (λ _ a. refl) (λ _ a. refl) (λ _ a. refl) (λ _ a. refl) (λ _ a. refl) (λ _ a. refl) (λ _ a. refl) (λ _ a. refl) (λ _ a. refl) (λ _ a. refl) (λ _ a. refl) (λ _ a. refl);
-    hit_set_grade_decay_rate = λ free. all_rows (λ w. w.hit_set_grade_decay_rate) k d v u e
+  hit_set_grade_decay_rate = λ free. all_rows (λ w. w.hit_set_grade_decay_rate) k d v u e
       (λ _ a. refl) (λ _ a. refl) (λ _ a. refl) (λ _ a. refl) (λ is. not_both (bytes_eq k (codes "hit_set_grade_decay_rate")) (neither (bytes_eq k (codes "hit_set_grade_decay_rate")) false free).0 is) (λ _ a. refl) (λ _ a. refl) (λ _ a. refl) (λ _ a. refl) (λ _ a. refl) (λ _ a. refl) (λ _ a. refl) (λ _ a. refl) (λ _ a. refl) (λ _ a. refl) (λ _ a. refl);
-    hit_set_search_last_n = λ free. all_rows (λ w. w.hit_set_search_last_n) k d v u e
+  hit_set_search_last_n = λ free. all_rows (λ w. w.hit_set_search_last_n) k d v u e
       (λ _ a. refl) (λ _ a. refl) (λ _ a. refl) (λ _ a. refl) (λ _ a. refl) (λ is. not_both (bytes_eq k (codes "hit_set_search_last_n")) (neither (bytes_eq k (codes "hit_set_search_last_n")) false free).0 is) (λ _ a. refl) (λ _ a. refl) (λ _ a. refl) (λ _ a. refl) (λ _ a. refl) (λ _ a. refl) (λ _ a. refl) (λ _ a. refl) (λ _ a. refl) (λ _ a. refl);
-    cache_mode = λ free. all_rows (λ w. w.cache_mode) k d v u e
+  cache_mode = λ free. all_rows (λ w. w.cache_mode) k d v u e
       (λ _ a. refl) (λ _ a. refl) (λ _ a. refl) (λ _ a. refl) (λ _ a. refl) (λ _ a. refl) (λ is. not_both (bytes_eq k (codes "cache_mode")) (neither (bytes_eq k (codes "cache_mode")) false free).0 is) (λ _ a. refl) (λ _ a. refl) (λ _ a. refl) (λ _ a. refl) (λ _ a. refl) (λ _ a. refl) (λ _ a. refl) (λ _ a. refl) (λ _ a. refl);
-    target_max_bytes = λ free. all_rows (λ w. w.target_max_bytes) k d v u e
+  target_max_bytes = λ free. all_rows (λ w. w.target_max_bytes) k d v u e
       (λ _ a. refl) (λ _ a. refl) (λ _ a. refl) (λ _ a. refl) (λ _ a. refl) (λ _ a. refl) (λ _ a. refl) (λ is. not_both (bytes_eq k (codes "target_max_bytes")) (neither (bytes_eq k (codes "target_max_bytes")) false free).0 is) (λ _ a. refl) (λ _ a. refl) (λ _ a. refl) (λ _ a. refl) (λ _ a. refl) (λ _ a. refl) (λ _ a. refl) (λ _ a. refl);
-    target_max_objects = λ free. all_rows (λ w. w.target_max_objects) k d v u e
+  target_max_objects = λ free. all_rows (λ w. w.target_max_objects) k d v u e
       (λ _ a. refl) (λ _ a. refl) (λ _ a. refl) (λ _ a. refl) (λ _ a. refl) (λ _ a. refl) (λ _ a. refl) (λ _ a. refl) (λ is. not_both (bytes_eq k (codes "target_max_objects")) (neither (bytes_eq k (codes "target_max_objects")) false free).0 is) (λ _ a. refl) (λ _ a. refl) (λ _ a. refl) (λ _ a. refl) (λ _ a. refl) (λ _ a. refl) (λ _ a. refl);
-    cache_target_dirty_ratio = λ free. all_rows (λ w. w.cache_target_dirty_ratio) k d v u e
+  cache_target_dirty_ratio = λ free. all_rows (λ w. w.cache_target_dirty_ratio) k d v u e
       (λ _ a. refl) (λ _ a. refl) (λ _ a. refl) (λ _ a. refl) (λ _ a. refl) (λ _ a. refl) (λ _ a. refl) (λ _ a. refl) (λ _ a. refl) (λ is. not_both (bytes_eq k (codes "cache_target_dirty_ratio")) (neither (bytes_eq k (codes "cache_target_dirty_ratio")) false free).0 is) (λ _ a. refl) (λ _ a. refl) (λ _ a. refl) (λ _ a. refl) (λ _ a. refl) (λ _ a. refl);
-    cache_target_dirty_high_ratio = λ free. all_rows (λ w. w.cache_target_dirty_high_ratio) k d v u e
+  cache_target_dirty_high_ratio = λ free. all_rows (λ w. w.cache_target_dirty_high_ratio) k d v u e
       (λ _ a. refl) (λ _ a. refl) (λ _ a. refl) (λ _ a. refl) (λ _ a. refl) (λ _ a. refl) (λ _ a. refl) (λ _ a. refl) (λ _ a. refl) (λ _ a. refl) (λ is. not_both (bytes_eq k (codes "cache_target_dirty_high_ratio")) (neither (bytes_eq k (codes "cache_target_dirty_high_ratio")) false free).0 is) (λ _ a. refl) (λ _ a. refl) (λ _ a. refl) (λ _ a. refl) (λ _ a. refl);
-    cache_target_full_ratio = λ free. all_rows (λ w. w.cache_target_full_ratio) k d v u e
+  cache_target_full_ratio = λ free. all_rows (λ w. w.cache_target_full_ratio) k d v u e
       (λ _ a. refl) (λ _ a. refl) (λ _ a. refl) (λ _ a. refl) (λ _ a. refl) (λ _ a. refl) (λ _ a. refl) (λ _ a. refl) (λ _ a. refl) (λ _ a. refl) (λ _ a. refl) (λ is. not_both (bytes_eq k (codes "cache_target_full_ratio")) (neither (bytes_eq k (codes "cache_target_full_ratio")) false free).0 is) (λ _ a. refl) (λ _ a. refl) (λ _ a. refl) (λ _ a. refl);
-    cache_min_flush_age = λ free. all_rows (λ w. w.cache_min_flush_age) k d v u e
+  cache_min_flush_age = λ free. all_rows (λ w. w.cache_min_flush_age) k d v u e
       (λ _ a. refl) (λ _ a. refl) (λ _ a. refl) (λ _ a. refl) (λ _ a. refl) (λ _ a. refl) (λ _ a. refl) (λ _ a. refl) (λ _ a. refl) (λ _ a. refl) (λ _ a. refl) (λ _ a. refl) (λ is. not_both (bytes_eq k (codes "cache_min_flush_age")) (neither (bytes_eq k (codes "cache_min_flush_age")) false free).0 is) (λ _ a. refl) (λ _ a. refl) (λ _ a. refl);
-    cache_min_evict_age = λ free. all_rows (λ w. w.cache_min_evict_age) k d v u e
+  cache_min_evict_age = λ free. all_rows (λ w. w.cache_min_evict_age) k d v u e
       (λ _ a. refl) (λ _ a. refl) (λ _ a. refl) (λ _ a. refl) (λ _ a. refl) (λ _ a. refl) (λ _ a. refl) (λ _ a. refl) (λ _ a. refl) (λ _ a. refl) (λ _ a. refl) (λ _ a. refl) (λ _ a. refl) (λ is. not_both (bytes_eq k (codes "cache_min_evict_age")) (neither (bytes_eq k (codes "cache_min_evict_age")) false free).0 is) (λ _ a. refl) (λ _ a. refl);
-    min_read_recency_for_promote = λ free. all_rows (λ w. w.min_read_recency_for_promote) k d v u e
+  min_read_recency_for_promote = λ free. all_rows (λ w. w.min_read_recency_for_promote) k d v u e
       (λ _ a. refl) (λ _ a. refl) (λ _ a. refl) (λ _ a. refl) (λ _ a. refl) (λ _ a. refl) (λ _ a. refl) (λ _ a. refl) (λ _ a. refl) (λ _ a. refl) (λ _ a. refl) (λ _ a. refl) (λ _ a. refl) (λ _ a. refl) (λ is. not_both (bytes_eq k (codes "min_read_recency_for_promote")) (neither (bytes_eq k (codes "min_read_recency_for_promote")) false free).0 is) (λ _ a. refl);
-    min_write_recency_for_promote = λ free. all_rows (λ w. w.min_write_recency_for_promote) k d v u e
-      (λ _ a. refl) (λ _ a. refl) (λ _ a. refl) (λ _ a. refl) (λ _ a. refl) (λ _ a. refl) (λ _ a. refl) (λ _ a. refl) (λ _ a. refl) (λ _ a. refl) (λ _ a. refl) (λ _ a. refl) (λ _ a. refl) (λ _ a. refl) (λ _ a. refl) (λ is. not_both (bytes_eq k (codes "min_write_recency_for_promote")) (neither (bytes_eq k (codes "min_write_recency_for_promote")) false free).0 is)
-  }
+  min_write_recency_for_promote = λ free. all_rows (λ w. w.min_write_recency_for_promote) k d v u e
+      (λ _ a. refl) (λ _ a. refl) (λ _ a. refl) (λ _ a. refl) (λ _ a. refl) (λ _ a. refl) (λ _ a. refl) (λ _ a. refl) (λ _ a. refl) (λ _ a. refl) (λ _ a. refl) (λ _ a. refl) (λ _ a. refl) (λ _ a. refl) (λ _ a. refl) (λ is. not_both (bytes_eq k (codes "min_write_recency_for_promote")) (neither (bytes_eq k (codes "min_write_recency_for_promote")) false free).0 is);
+}
 
 -- members, one behind the others
 more : (k : List ℕ) (d : Data) (ms : Members) (v w u : PoolValues) → KeepsUnnamed (member k d no_members) v w → KeepsUnnamed ms w u → KeepsUnnamed (member k d ms) v u
 more k d ms v w u first rest = record {
-    hit_set_type = λ free. let at = neither (bytes_eq k (codes "hit_set_type")) (names (codes "hit_set_type") ms) free in rest.hit_set_type at.1 ∙ first.hit_set_type (ap (λ b. b || false) at.0);
-    hit_set_count = λ free. let at = neither (bytes_eq k (codes "hit_set_count")) (names (codes "hit_set_count") ms) free in rest.hit_set_count at.1 ∙ first.hit_set_count (ap (λ b. b || false) at.0);
-    hit_set_period = λ free. let at = neither (bytes_eq k (codes "hit_set_period")) (names (codes "hit_set_period") ms) free in rest.hit_set_period at.1 ∙ first.hit_set_period (ap (λ b. b || false) at.0);
-    hit_set_fpp = λ free. let at = neither (bytes_eq k (codes "hit_set_fpp")) (names (codes "hit_set_fpp") ms) free in rest.hit_set_fpp at.1 ∙ first.hit_set_fpp (ap (λ b. b || false) at.0);
-    hit_set_grade_decay_rate = λ free. let at = neither (bytes_eq k (codes "hit_set_grade_decay_rate")) (names (codes "hit_set_grade_decay_rate") ms) free in rest.hit_set_grade_decay_rate at.1 ∙ first.hit_set_grade_decay_rate (ap (λ b. b || false) at.0);
-    hit_set_search_last_n = λ free. let at = neither (bytes_eq k (codes "hit_set_search_last_n")) (names (codes "hit_set_search_last_n") ms) free in rest.hit_set_search_last_n at.1 ∙ first.hit_set_search_last_n (ap (λ b. b || false) at.0);
-    cache_mode = λ free. let at = neither (bytes_eq k (codes "cache_mode")) (names (codes "cache_mode") ms) free in rest.cache_mode at.1 ∙ first.cache_mode (ap (λ b. b || false) at.0);
-    target_max_bytes = λ free. let at = neither (bytes_eq k (codes "target_max_bytes")) (names (codes "target_max_bytes") ms) free in rest.target_max_bytes at.1 ∙ first.target_max_bytes (ap (λ b. b || false) at.0);
-    target_max_objects = λ free. let at = neither (bytes_eq k (codes "target_max_objects")) (names (codes "target_max_objects") ms) free in rest.target_max_objects at.1 ∙ first.target_max_objects (ap (λ b. b || false) at.0);
-    cache_target_dirty_ratio = λ free. let at = neither (bytes_eq k (codes "cache_target_dirty_ratio")) (names (codes "cache_target_dirty_ratio") ms) free in rest.cache_target_dirty_ratio at.1 ∙ first.cache_target_dirty_ratio (ap (λ b. b || false) at.0);
-    cache_target_dirty_high_ratio = λ free. let at = neither (bytes_eq k (codes "cache_target_dirty_high_ratio")) (names (codes "cache_target_dirty_high_ratio") ms) free in rest.cache_target_dirty_high_ratio at.1 ∙ first.cache_target_dirty_high_ratio (ap (λ b. b || false) at.0);
-    cache_target_full_ratio = λ free. let at = neither (bytes_eq k (codes "cache_target_full_ratio")) (names (codes "cache_target_full_ratio") ms) free in rest.cache_target_full_ratio at.1 ∙ first.cache_target_full_ratio (ap (λ b. b || false) at.0);
-    cache_min_flush_age = λ free. let at = neither (bytes_eq k (codes "cache_min_flush_age")) (names (codes "cache_min_flush_age") ms) free in rest.cache_min_flush_age at.1 ∙ first.cache_min_flush_age (ap (λ b. b || false) at.0);
-    cache_min_evict_age = λ free. let at = neither (bytes_eq k (codes "cache_min_evict_age")) (names (codes "cache_min_evict_age") ms) free in rest.cache_min_evict_age at.1 ∙ first.cache_min_evict_age (ap (λ b. b || false) at.0);
-    min_read_recency_for_promote = λ free. let at = neither (bytes_eq k (codes "min_read_recency_for_promote")) (names (codes "min_read_recency_for_promote") ms) free in rest.min_read_recency_for_promote at.1 ∙ first.min_read_recency_for_promote (ap (λ b. b || false) at.0);
-    min_write_recency_for_promote = λ free. let at = neither (bytes_eq k (codes "min_write_recency_for_promote")) (names (codes "min_write_recency_for_promote") ms) free in rest.min_write_recency_for_promote at.1 ∙ first.min_write_recency_for_promote (ap (λ b. b || false) at.0)
-  }
+  hit_set_type = λ free. let at = neither (bytes_eq k (codes "hit_set_type")) (names (codes "hit_set_type") ms) free in rest.hit_set_type at.1 ∙ first.hit_set_type (ap (λ b. b || false) at.0);
+  hit_set_count = λ free. let at = neither (bytes_eq k (codes "hit_set_count")) (names (codes "hit_set_count") ms) free in rest.hit_set_count at.1 ∙ first.hit_set_count (ap (λ b. b || false) at.0);
+  hit_set_period = λ free. let at = neither (bytes_eq k (codes "hit_set_period")) (names (codes "hit_set_period") ms) free in rest.hit_set_period at.1 ∙ first.hit_set_period (ap (λ b. b || false) at.0);
+  hit_set_fpp = λ free. let at = neither (bytes_eq k (codes "hit_set_fpp")) (names (codes "hit_set_fpp") ms) free in rest.hit_set_fpp at.1 ∙ first.hit_set_fpp (ap (λ b. b || false) at.0);
+  hit_set_grade_decay_rate = λ free. let at = neither (bytes_eq k (codes "hit_set_grade_decay_rate")) (names (codes "hit_set_grade_decay_rate") ms) free in rest.hit_set_grade_decay_rate at.1 ∙ first.hit_set_grade_decay_rate (ap (λ b. b || false) at.0);
+  hit_set_search_last_n = λ free. let at = neither (bytes_eq k (codes "hit_set_search_last_n")) (names (codes "hit_set_search_last_n") ms) free in rest.hit_set_search_last_n at.1 ∙ first.hit_set_search_last_n (ap (λ b. b || false) at.0);
+  cache_mode = λ free. let at = neither (bytes_eq k (codes "cache_mode")) (names (codes "cache_mode") ms) free in rest.cache_mode at.1 ∙ first.cache_mode (ap (λ b. b || false) at.0);
+  target_max_bytes = λ free. let at = neither (bytes_eq k (codes "target_max_bytes")) (names (codes "target_max_bytes") ms) free in rest.target_max_bytes at.1 ∙ first.target_max_bytes (ap (λ b. b || false) at.0);
+  target_max_objects = λ free. let at = neither (bytes_eq k (codes "target_max_objects")) (names (codes "target_max_objects") ms) free in rest.target_max_objects at.1 ∙ first.target_max_objects (ap (λ b. b || false) at.0);
+  cache_target_dirty_ratio = λ free. let at = neither (bytes_eq k (codes "cache_target_dirty_ratio")) (names (codes "cache_target_dirty_ratio") ms) free in rest.cache_target_dirty_ratio at.1 ∙ first.cache_target_dirty_ratio (ap (λ b. b || false) at.0);
+  cache_target_dirty_high_ratio = λ free. let at = neither (bytes_eq k (codes "cache_target_dirty_high_ratio")) (names (codes "cache_target_dirty_high_ratio") ms) free in rest.cache_target_dirty_high_ratio at.1 ∙ first.cache_target_dirty_high_ratio (ap (λ b. b || false) at.0);
+  cache_target_full_ratio = λ free. let at = neither (bytes_eq k (codes "cache_target_full_ratio")) (names (codes "cache_target_full_ratio") ms) free in rest.cache_target_full_ratio at.1 ∙ first.cache_target_full_ratio (ap (λ b. b || false) at.0);
+  cache_min_flush_age = λ free. let at = neither (bytes_eq k (codes "cache_min_flush_age")) (names (codes "cache_min_flush_age") ms) free in rest.cache_min_flush_age at.1 ∙ first.cache_min_flush_age (ap (λ b. b || false) at.0);
+  cache_min_evict_age = λ free. let at = neither (bytes_eq k (codes "cache_min_evict_age")) (names (codes "cache_min_evict_age") ms) free in rest.cache_min_evict_age at.1 ∙ first.cache_min_evict_age (ap (λ b. b || false) at.0);
+  min_read_recency_for_promote = λ free. let at = neither (bytes_eq k (codes "min_read_recency_for_promote")) (names (codes "min_read_recency_for_promote") ms) free in rest.min_read_recency_for_promote at.1 ∙ first.min_read_recency_for_promote (ap (λ b. b || false) at.0);
+  min_write_recency_for_promote = λ free. let at = neither (bytes_eq k (codes "min_write_recency_for_promote")) (names (codes "min_write_recency_for_promote") ms) free in rest.min_write_recency_for_promote at.1 ∙ first.min_write_recency_for_promote (ap (λ b. b || false) at.0);
+}
 
 same : (v : PoolValues) (ms : Members) → KeepsUnnamed ms v v
 same v ms = record {
-    hit_set_type = λ _. refl;
-    hit_set_count = λ _. refl;
-    hit_set_period = λ _. refl;
-    hit_set_fpp = λ _. refl;
-    hit_set_grade_decay_rate = λ _. refl;
-    hit_set_search_last_n = λ _. refl;
-    cache_mode = λ _. refl;
-    target_max_bytes = λ _. refl;
-    target_max_objects = λ _. refl;
-    cache_target_dirty_ratio = λ _. refl;
-    cache_target_dirty_high_ratio = λ _. refl;
-    cache_target_full_ratio = λ _. refl;
-    cache_min_flush_age = λ _. refl;
-    cache_min_evict_age = λ _. refl;
-    min_read_recency_for_promote = λ _. refl;
-    min_write_recency_for_promote = λ _. refl
-  }
+  hit_set_type = λ _. refl;
+  hit_set_count = λ _. refl;
+  hit_set_period = λ _. refl;
+  hit_set_fpp = λ _. refl;
+  hit_set_grade_decay_rate = λ _. refl;
+  hit_set_search_last_n = λ _. refl;
+  cache_mode = λ _. refl;
+  target_max_bytes = λ _. refl;
+  target_max_objects = λ _. refl;
+  cache_target_dirty_ratio = λ _. refl;
+  cache_target_dirty_high_ratio = λ _. refl;
+  cache_target_full_ratio = λ _. refl;
+  cache_min_flush_age = λ _. refl;
+  cache_min_evict_age = λ _. refl;
+  min_read_recency_for_promote = λ _. refl;
+  min_write_recency_for_promote = λ _. refl;
+}
 
 -- what is left of the members comes behind the first
 behind : (r : Result PoolValues Wrong) (ms : Members) (u : PoolValues)

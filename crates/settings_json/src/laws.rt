@@ -5,5 +5,4 @@ ghost use Rattle.settings_json.specs.Laws.{UnnamedAreDefaults};
 #[tactic(auto, using(crate::proofs::Unnamed::unnamed_are_defaults))]
 pub fn unnamed_are_defaults()
     ensures { UnnamedAreDefaults }
-{
-}
+{}

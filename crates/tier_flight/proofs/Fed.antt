@@ -13,7 +13,9 @@ use Rattle.tier_flight.proofs.Indexed.{get_here}
 use Rattle.tier_flight.proofs.Joined.{as_before}
 use Rattle.tier_flight.proofs.Swaps.{left_twice}
 
-module _ (m between after : FlightMap) (k : List ℕ) (v stood work : Flight) (swapped : between ≡ fin.insert m k v) (before : fin.get m k ≡ Some stood) (put : after ≡ put_left between k (Some work)) where
+module _ (m between after : FlightMap) (k : List ℕ) (v stood work : Flight)
+    (swapped : between ≡ fin.insert m k v) (before : fin.get m k ≡ Some stood)
+    (put : after ≡ put_left between k (Some work)) where
   one_put : after ≡ put_left m k (Some work)
   one_put = put ∙ ap (λ u. put_left u k (Some work)) swapped ∙ left_twice m k v (Some work)
 
@@ -21,16 +23,24 @@ module _ (m between after : FlightMap) (k : List ℕ) (v stood work : Flight) (s
   now = ap (λ u. fin.get u k) one_put ∙ get_here m k (Some work)
 
   -- a chunk came for it
-  pub fed_in : (chunk : Chunk) (added : Result Added NoMemory) → IfOk added (λ a. Adds chunk (gathered (Some stood)) a (gathered (Some work)))
-      → Some work ≡ fed_at (gathered (Some work)) (Some stood) → IfOk added (λ a. IsFedIn k chunk a m after)
+  pub fed_in : (chunk : Chunk) (added : Result Added NoMemory) →
+      IfOk added (λ a. Adds chunk (gathered (Some stood)) a (gathered (Some work)))
+      → Some work ≡ fed_at (gathered (Some work)) (Some stood) →
+      IfOk added (λ a. IsFedIn k chunk a m after)
   fed_in chunk (Ok a) adds fed = record {
-    adds = subst (λ (w : Option Flight). Adds chunk (gathered w) a (gathered (fin.get after k))) (sym before)
-        (subst (λ (w : Option Flight). Adds chunk (gathered (Some stood)) a (gathered w)) (sym now) adds);
-    stays = one_put ∙ ap (put_left m k) (fed ∙ ap (λ w. fed_at (gathered w) (Some stood)) (sym now) ∙ ap (fed_at (gathered (fin.get after k))) (sym before));
+    adds = subst (λ (w : Option Flight). Adds chunk (gathered w) a (gathered (fin.get after k)))
+        (sym before)
+        (subst (λ (w : Option Flight). Adds chunk (gathered (Some stood)) a (gathered w)) (sym now)
+        adds);
+    stays = one_put ∙ ap (put_left m k)
+        (fed ∙ ap (λ w. fed_at (gathered w) (Some stood)) (sym now)
+        ∙ ap (fed_at (gathered (fin.get after k))) (sym before));
   }
   fed_in chunk (Err e) adds fed = search rules
 
   -- nothing came for it
-  pub as_it_was : (added : Result Added NoMemory) → OnErr added (work ≡ stood) → OnErr added (after ≡ m)
+  pub as_it_was : (added : Result Added NoMemory) → OnErr added (work ≡ stood) →
+      OnErr added (after ≡ m)
   as_it_was (Ok a) same = search rules
-  as_it_was (Err e) same = as_before m between after k v stood swapped before (put ∙ ap (λ w. put_left between k (Some w)) same)
+  as_it_was (Err e) same = as_before m between after k v stood swapped before
+      (put ∙ ap (λ w. put_left between k (Some w)) same)

@@ -9,7 +9,8 @@ use Rattle.tier_types.specs.declared.flight.Flight.TheVariants as flight
 use Rattle.tier_flight.specs.Ends.{FlightMap, left_at, put_left}
 use Rattle.tier_flight.specs.Numbers.{has_call}
 
--- what the end of a call leaves of a name's work: of work that waits for it what is left of that, and all other work
+-- what the end of a call leaves of a name's work: of work that waits for it what is left of that,
+-- and all other work
 abbrev pub dropped_at : ℕ → Option Flight → Option Flight
 dropped_at call work = if has_call work call then left_at call work else work
 
@@ -25,8 +26,10 @@ IsUnheld work = ⊥
 
 -- the work, for which this call waits from now on
 abbrev pub held_at : ℕ → Option Flight → Option Flight
-held_at call (Some (flight.Write driver owner opid req)) = Some (flight.Write (Some call) owner opid req)
-held_at call (Some (flight.Flush waiter opid seq blocking drain)) = Some (flight.Flush (Some call) opid seq blocking drain)
+held_at call (Some (flight.Write driver owner opid req)) =
+    Some (flight.Write (Some call) owner opid req)
+held_at call (Some (flight.Flush waiter opid seq blocking drain)) =
+    Some (flight.Flush (Some call) opid seq blocking drain)
 held_at call work = work
 
 -- the call waits for the name's work; all other work stays
@@ -45,10 +48,12 @@ gathered work = []
 
 -- the promotion with these chunks
 abbrev pub fed_at : List Chunk → Option Flight → Option Flight
-fed_at chunks (Some (flight.Promote call opid gather ask)) = Some (flight.Promote call opid chunks ask)
+fed_at chunks (Some (flight.Promote call opid gather ask)) =
+    Some (flight.Promote call opid chunks ask)
 fed_at chunks work = work
 
 -- a chunk came for the name's promotion, which did this with it; all other work stays
-pub record IsFedIn (name : List ℕ) (chunk : Chunk) (added : Added) (old new : FlightMap) : Type 0 where
-  pub adds : Adds chunk (gathered (fin.get old name)) added (gathered (fin.get new name))
-  pub stays : new ≡ put_left old name (fed_at (gathered (fin.get new name)) (fin.get old name))
+pub record IsFedIn (name : List ℕ) (chunk : Chunk) (added : Added) (old new : FlightMap) : Type 0
+  where
+    pub adds : Adds chunk (gathered (fin.get old name)) added (gathered (fin.get new name))
+    pub stays : new ≡ put_left old name (fed_at (gathered (fin.get new name)) (fin.get old name))

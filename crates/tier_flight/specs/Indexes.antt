@@ -41,7 +41,8 @@ ends_opid call work k = has_opid work k && not (has_opid (left_at call work) k)
 abbrev pub other_opid : ℕ → List ReadFlight → ℕ → Bool
 other_opid call all k = list_any (λ r. is_other call r && (r.opid == k)) all
 
--- one of these reads is the call's and this operation, which none of another call among all reads is
+-- one of these reads is the call's and this operation, which none of another call among all reads
+-- is
 abbrev pub ends_reads : ℕ → List ReadFlight → List ReadFlight → ℕ → Bool
 ends_reads call all some k =
     list_any (λ r. (r.call == call) && ((r.opid == k) && not (other_opid call all r.opid))) some

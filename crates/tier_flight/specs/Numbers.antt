@@ -37,7 +37,8 @@ IsNameBy has flights k found = (n : List ℕ) → (found ≡ Some n) ↔ (has (f
 
 -- no work has a number that this work has
 abbrev pub IsNewBy : (Option Flight → ℕ → Bool) → FlightMap → Flight → Type 0
-IsNewBy has flights work = (k : ℕ) → has (Some work) k ≡ true → (n : List ℕ) → has (fin.get flights n) k ≡ false
+IsNewBy has flights work = (k : ℕ) → has (Some work) k ≡ true → (n : List ℕ) →
+    has (fin.get flights n) k ≡ false
 
 -- no work waits for this call
 abbrev pub IsIdle : ℕ → FlightMap → Type 0

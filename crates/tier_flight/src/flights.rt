@@ -2,6 +2,7 @@
 ghost use Rattle.std.specs.Prelude.{◌≡◌, OnErr, IfOk, OnOk};
 ghost use Rattle.std.specs.Option.{option_copied};
 ghost use Rattle.std.specs.FinMap as fin;
+ghost use Rattle.obj_model.specs.Tables.{entries_above};
 ghost use Rattle.tier_flight.specs.Busy.{busy_at};
 ghost use Rattle.tier_flight.specs.Changes.{IsDroppedIn, IsFedIn, IsPromote, IsTakenIn, IsUnheld};
 ghost use Rattle.tier_flight.specs.Joins.{IsJoinedIn, MayJoin};
@@ -16,6 +17,7 @@ use crate::{Busy, Want};
 use copy_chunk::{Added, Chunk};
 use obj_model::{Name, NameMap, NoMemory};
 use std::alloc::Global;
+use std::collections::btree_map::Range;
 use std::marker::Model;
 use tier_types::Flight;
 
@@ -75,6 +77,13 @@ impl Flights {
         ensures { IsNameBy has_call self.now call (option_copied result) }
     {
         self.numbers.calls.get(call)
+    }
+
+    /// The work on names above this one, or on all without one, in the order of the names.
+    pub fn iter_above(&self, after: Option<&Name>) -> Range<'_, Name, Flight>
+        ensures { result ≡ entries_above (option_copied after.entry) self.now }
+    {
+        self.by_name.iter_above(after)
     }
 
     /// What holds up a call that wants this of a name, if anything does.

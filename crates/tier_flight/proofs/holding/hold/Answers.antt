@@ -11,4 +11,5 @@ returns-in-Ok c =
     c.put_left.ensures
     ∙ ap (λ m. put_left m name c.held.result) c.in-Ok.ensures.put
     ∙ left_twice old name c.in_between.result c.held.result
-    ∙ ap (put_left old name) (c.held.ensures ∙ sym (ap (held_at c.args.call) c.in-Ok.ensures.before))
+    ∙ ap (put_left old name)
+    (c.held.ensures ∙ sym (ap (held_at c.args.call) c.in-Ok.ensures.before))

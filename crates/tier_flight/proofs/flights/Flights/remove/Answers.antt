@@ -13,11 +13,19 @@ invariant_of-self c =
     let opids = c.self.inside.numbers.opids in
     let calls = c.self.inside.numbers.calls in
     record {
-      opid = lost has_opid opids c.leave_all.new.self.opids m c.remove.new.self name None c.in-Some.ensures.taken c.self.invariant.opid
-          (λ k. c.leave_all.ensures.opids k ∙ ap (λ b. cond b None (name_in opids k)) (all_lost has_opid (λ i. refl) (fin.get m name) c.in-Some.work c.in-Some.ensures.before k))
+      opid = lost has_opid opids c.leave_all.new.self.opids m c.remove.new.self name None
+          c.in-Some.ensures.taken c.self.invariant.opid
+          (λ k. c.leave_all.ensures.opids k
+          ∙ ap (λ b. cond b None (name_in opids k))
+          (all_lost has_opid (λ i. refl) (fin.get m name) c.in-Some.work
+          c.in-Some.ensures.before k))
           (λ k is. absurd (true≢false (sym is)));
-      call = lost has_call calls c.leave_all.new.self.calls m c.remove.new.self name None c.in-Some.ensures.taken c.self.invariant.call
-          (λ k. c.leave_all.ensures.calls k ∙ ap (λ b. cond b None (name_in calls k)) (all_lost has_call (λ i. refl) (fin.get m name) c.in-Some.work c.in-Some.ensures.before k))
+      call = lost has_call calls c.leave_all.new.self.calls m c.remove.new.self name None
+          c.in-Some.ensures.taken c.self.invariant.call
+          (λ k. c.leave_all.ensures.calls k
+          ∙ ap (λ b. cond b None (name_in calls k))
+          (all_lost has_call (λ i. refl) (fin.get m name) c.in-Some.work
+          c.in-Some.ensures.before k))
           (λ k is. absurd (true≢false (sym is)));
     }
 
@@ -26,8 +34,10 @@ invariant_of-self-in-None c =
     let m = c.self.inside.by_name in
     let name = c.args.name.now in
     record {
-      opid = kept has_opid c.self.inside.numbers.opids m c.remove.new.self name None c.in-None.ensures.taken c.self.invariant.opid
+      opid = kept has_opid c.self.inside.numbers.opids m c.remove.new.self name None
+          c.in-None.ensures.taken c.self.invariant.opid
           (λ k. ap (λ w. has_opid w k) c.in-None.ensures.before);
-      call = kept has_call c.self.inside.numbers.calls m c.remove.new.self name None c.in-None.ensures.taken c.self.invariant.call
+      call = kept has_call c.self.inside.numbers.calls m c.remove.new.self name None
+          c.in-None.ensures.taken c.self.invariant.call
           (λ k. ap (λ w. has_call w k) c.in-None.ensures.before);
     }
