@@ -19,14 +19,16 @@ const PLACES: &str = "\
 // One line of places.
 fn has_places(rt: &impl Abort, alloc: Global, line: &str) -> Result<(), Fail> {
     let mut row = Row::new(line);
-    let fpp = row.number()? as u32;
+    let fpp = row.small()?;
     let name = name(alloc, row.word())?;
-    let mut rank = 0u32;
-    while !row.is_empty() {
-        assert_eq!(rt; bloom_place(fpp, &name, rank), Some(row.number()?), "{line}");
-        rank = rank.saturating_add(1);
+    for rank in 0..11u32 {
+        let place = if row.is_empty() {
+            None
+        } else {
+            Some(row.number()?)
+        };
+        assert_eq!(rt; bloom_place(fpp, &name, rank), place, "{line}");
     }
-    assert_eq!(rt; bloom_place(fpp, &name, rank), None, "{line}");
     Ok(())
 }
 
@@ -191,12 +193,12 @@ fn is_told(alloc: Global, archive: &mut HitArchive, line: &str) -> Result<bool, 
         }
         "met" => {
             let was_in = row.flag()?;
-            let met = archive.recency_met(&name, was_in, row.number()? as u32);
+            let met = archive.recency_met(&name, was_in, row.small()?);
             Ok(met == row.flag()?)
         }
         _ => {
-            let last = row.number()? as u32;
-            let warm = archive.temperature(&name, last, row.number()? as u32);
+            let last = row.small()?;
+            let warm = archive.temperature(&name, last, row.small()?);
             Ok(warm == row.number()?)
         }
     }
@@ -205,7 +207,7 @@ fn is_told(alloc: Global, archive: &mut HitArchive, line: &str) -> Result<bool, 
 // The archive that a line makes.
 fn archive(alloc: Global, kind: HitKind, line: &str) -> Result<HitArchive, Fail> {
     let mut row = Row::new(line);
-    let count = row.number()? as u32;
+    let count = row.small()?;
     let period = row.number()?;
     let start = row.number()?;
     Ok(HitArchive::new(alloc, kind, count, period, start)

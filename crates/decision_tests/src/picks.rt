@@ -116,8 +116,10 @@ rows c- 0 8 c- 0 7 c- 0 6 c- 0 5 c- 0 4 c- 0 3
 fn records(alloc: Global, line: &str) -> Result<Vec<Record>, Fail> {
     let mut row = Row::new(line);
     let mut records = Vec::new(alloc);
-    let mut letter = b'a';
-    while !row.is_empty() {
+    for letter in [b'a', b'c', b'e', b'g', b'i', b'k'] {
+        if row.is_empty() {
+            break;
+        }
         let flags = row.word();
         let bytes = Vec::from_slice(alloc, &[letter])?;
         records.push(Record {
@@ -128,7 +130,6 @@ fn records(alloc: Global, line: &str) -> Result<Vec<Record>, Fail> {
             mtime: row.number()?,
             temperature: row.number()?,
         })?;
-        letter = letter.saturating_add(2);
     }
     Ok(records)
 }

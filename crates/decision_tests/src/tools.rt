@@ -34,6 +34,11 @@ impl<'a> Row<'a> {
         Ok(self.word().parse::<u64>().ok().ok_or("a number")?)
     }
 
+    /// The next word, a number below 2^32.
+    pub fn small(&mut self) -> Result<u32, Fail> {
+        Ok(self.word().parse::<u32>().ok().ok_or("a small number")?)
+    }
+
     /// The next word, a number that is a flag: 0 or 1.
     pub fn flag(&mut self) -> Result<bool, Fail> {
         Ok(self.number()? == 1)
