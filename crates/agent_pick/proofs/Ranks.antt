@@ -12,7 +12,8 @@ colder_too : (t a b : ℕ) → a ≤ b → cond (nat_lt t a) 1 0 ≤ cond (nat_l
 colder_too t a b l = grind (arith)
 
 pub counts_rise : (rows : List Row) (a b : ℕ) → a ≤ b →
-    count_by (λ (r : Row). nat_lt r.temperature a) rows ≤ count_by (λ (r : Row). nat_lt r.temperature b) rows
+    count_by (λ (r : Row). nat_lt r.temperature a) rows ≤ count_by
+        (λ (r : Row). nat_lt r.temperature b) rows
 counts_rise rows a b l =
     sum_by-le-sum_by
     (λ (r : Row). cond (nat_lt r.temperature a) 1 0)
@@ -24,11 +25,13 @@ pub ranks_rise : (rows : List Row) (a b : ℕ) → a ≤ b → rank rows a ≤ r
 ranks_rise rows a b l = grind (arith, counts_rise rows a b l)
 
 -- what is as cold as a cold temperature is cold
-pub cold_below : (rows : List Row) (effort a b : ℕ) → a ≤ b → is_cold rows effort b ≡ true → is_cold rows effort a ≡ true
+pub cold_below : (rows : List Row) (effort a b : ℕ) → a ≤ b → is_cold rows effort b ≡ true →
+    is_cold rows effort a ≡ true
 cold_below rows effort a b l h = grind (arith, ranks_rise rows a b l, h)
 
 -- what is as warm as a warm temperature is warm
-pub warm_above : (rows : List Row) (effort a b : ℕ) → a ≤ b → is_cold rows effort a ≡ false → is_cold rows effort b ≡ false
+pub warm_above : (rows : List Row) (effort a b : ℕ) → a ≤ b → is_cold rows effort a ≡ false →
+    is_cold rows effort b ≡ false
 warm_above rows effort a b l h = grind (arith, ranks_rise rows a b l, h)
 
 -- cases on a number below a sum
@@ -60,11 +63,13 @@ warmer_known rows effort probe b k l u h =
     }
 
 -- a test that agrees with a limit on both sides of it
-by_limit : (t limit : ℕ) (b : Bool) → (t < limit → b ≡ true) → (limit ≤ t → b ≡ false) → b ≡ nat_lt t limit
+by_limit : (t limit : ℕ) (b : Bool) → (t < limit → b ≡ true) → (limit ≤ t → b ≡ false) →
+    b ≡ nat_lt t limit
 by_limit t limit b below above = grind (arith, below, above)
 
 -- nothing is left between
-pub limit_found : (rows : List Row) (effort : ℕ) (b : Between) → IsBetween rows effort b → b.high ≤ b.low →
+pub limit_found : (rows : List Row) (effort : ℕ) (b : Between) → IsBetween rows effort b →
+    b.high ≤ b.low →
     IsColdLimit rows effort b.low
 limit_found rows effort b k h t fits =
     by_limit t b.low (is_cold rows effort t) (k.cold t) (λ l. k.warm t (grind (arith, l, h)) fits)

@@ -17,8 +17,10 @@ not_counted : (b : Bool) → b ≡ false → cond b 1 0 ≤ 0
 not_counted true e = absurd (true≢false e)
 not_counted false e = omega arith
 
-pub none_dirty : (ws : List Weight) → All (λ (w : Weight). w.dirty ≡ false) ws → count_by (λ (w : Weight). w.dirty) ws ≡ 0
-none_dirty ws h = grind (arith, sum_by-le (λ (w : Weight). cond w.dirty 1 0) 0 ws (λ k d l. not_counted _ (h k d l)))
+pub none_dirty : (ws : List Weight) → All (λ (w : Weight). w.dirty ≡ false) ws →
+    count_by (λ (w : Weight). w.dirty) ws ≡ 0
+none_dirty ws h = grind
+    (arith, sum_by-le (λ (w : Weight). cond w.dirty 1 0) 0 ws (λ k d l. not_counted _ (h k d l)))
 
 -- nothing is no part of a target
 nothing_of : (target : ℕ) → micro_of 0 target ≡ 0
@@ -38,5 +40,8 @@ slopped v old target = with_slop (rests_flush old.flush) (slop_of v.cache_target
 
 pub clean : (v : PoolValues) (s : Share) → CleanIsNotFlushed v s
 clean v s ws old h =
-    ap₂ (λ p d. flush_of v old.flush p d) (ap (λ d. fill_of d (totals_of ws) s) (none_dirty ws h) ∙ no_fill (totals_of ws) s) (none_dirty ws h)
-    ∙ idle_at (slopped v old v.cache_target_dirty_ratio) (slopped v old v.cache_target_dirty_high_ratio)
+    ap₂ (λ p d. flush_of v old.flush p d)
+        (ap (λ d. fill_of d (totals_of ws) s) (none_dirty ws h) ∙ no_fill (totals_of ws) s)
+        (none_dirty ws h)
+    ∙ idle_at (slopped v old v.cache_target_dirty_ratio)
+        (slopped v old v.cache_target_dirty_high_ratio)

@@ -1,8 +1,17 @@
-//! The parts that decide, run over tables that were worked out by hand: the agent's modes, and the
-//! paths of calls. The promises themselves are proved.
+//! The parts that decide, run over tables that were worked out by hand or by another program: the
+//! agent's modes and picks, the paths of calls, hit sets, pool values. The promises themselves are
+//! proved.
 #![tactic(auto)]
 
 #[cfg(test)]
+mod hits;
+#[cfg(test)]
 mod modes;
 #[cfg(test)]
+mod picks;
+#[cfg(test)]
 mod routes;
+#[cfg(test)]
+mod settings;
+#[cfg(test)]
+mod tools;

@@ -13,10 +13,12 @@ ghost use Rattle.settings_json.specs.Settings.{settings_of, with_all, defaults, 
 ghost use Rattle.settings_json.specs.Steps.{IsCause, IsNoData};
 
 mod fault;
+mod laws;
 mod table;
 
 pub use fault::SettingsFault;
 use fault::member_fault;
+pub use laws::unnamed_are_defaults;
 use obj_model::PoolValues;
 use serde_json::{Error, Map, Value};
 use std::alloc::Global;

@@ -13,7 +13,8 @@ use Rattle.tier_flight.specs.Joins.{IsJoinedIn, joined}
 use Rattle.tier_flight.proofs.Swaps.{has_put, left_twice}
 
 module _ (m : FlightMap) (k : List ℕ) (v : Flight) (stood : fin.get m k ≡ Some v) where
-  same_value : (q : List ℕ) (r : Ordering) → name_cmp q k ≡ r → cond (is_eq (name_cmp q k)) (Some v) (fin.get m q) ≡ fin.get m q
+  same_value : (q : List ℕ) (r : Ordering) → name_cmp q k ≡ r →
+      cond (is_eq (name_cmp q k)) (Some v) (fin.get m q) ≡ fin.get m q
   same_value q Less e = ap (λ r. cond (is_eq r) (Some v) (fin.get m q)) e
   same_value q Equal e =
       ap (λ r. cond (is_eq r) (Some v) (fin.get m q)) e
@@ -22,18 +23,22 @@ module _ (m : FlightMap) (k : List ℕ) (v : Flight) (stood : fin.get m k ≡ So
 
   -- a value put in its own place changes nothing
   pub put_back : fin.insert m k v ≡ m
-  put_back = same_map nat_list_cmp_total (slice_cmp-IsAntisymmetric nat_cmp-IsAntisymmetric) _ _ (λ q.
+  put_back = same_map nat_list_cmp_total (slice_cmp-IsAntisymmetric nat_cmp-IsAntisymmetric) _ _
+      (λ q.
       get-insert nat_list_cmp_total m k v q ∙ same_value q (name_cmp q k) refl)
 
 -- the name to which something was put has work
-pub has_work : (m between : FlightMap) (k : List ℕ) (v : Flight) → between ≡ fin.insert m k v → IsSome (fin.get between k)
+pub has_work : (m between : FlightMap) (k : List ℕ) (v : Flight) → between ≡ fin.insert m k v →
+    IsSome (fin.get between k)
 has_work m between k v e =
     let P : FlightMap → Type 0 = λ n. IsSome (fin.get n k) in
     subst P (sym e) (has_put m k v)
 
-module _ (m between after : FlightMap) (k : List ℕ) (v stood : Flight) (swapped : between ≡ fin.insert m k v) (before : fin.get m k ≡ Some stood) where
+module _ (m between after : FlightMap) (k : List ℕ) (v stood : Flight)
+    (swapped : between ≡ fin.insert m k v) (before : fin.get m k ≡ Some stood) where
   -- what came joined what stood
-  pub joined_in : (f : Flight) → after ≡ put_left between k (Some (joined (Some stood) f)) → IsJoinedIn k f m after
+  pub joined_in : (f : Flight) → after ≡ put_left between k (Some (joined (Some stood) f)) →
+      IsJoinedIn k f m after
   joined_in f e =
       e ∙ ap (λ n. put_left n k (Some (joined (Some stood) f))) swapped
       ∙ left_twice m k v (Some (joined (Some stood) f))

@@ -1,3 +1,9 @@
+pub mod CallEnds
+pub mod Fed
+pub mod Indexed
 pub mod Joined
+pub mod NumbersLeft
 pub mod Retained
+pub mod Standing
 pub mod Swaps
+pub mod WorkLaws

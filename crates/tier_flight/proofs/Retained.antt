@@ -4,12 +4,14 @@ use Rattle.std.specs.Prelude.{filter}
 use Rattle.std.specs.List.Retain.{IsFiltered, ReturnsInTurn}
 use Rattle.std.proofs.lemmas.List.Elements.{filter_from_retain}
 
-module _ {X F : Type 0} (R : F → X → Bool → F → Type 0) (test : X → Bool) (f : F) (says : (x : X) (b : Bool) (g : F) → R f x b g → (b ≡ test x) × (g ≡ f)) where
+module _ {X F : Type 0} (R : F → X → Bool → F → Type 0) (test : X → Bool) (f : F)
+    (says : (x : X) (b : Bool) (g : F) → R f x b g → (b ≡ test x) × (g ≡ f)) where
   -- the answers are the test's
   abbrev Tests : F → X → Bool → F → Type 0
   Tests p x b q = b ≡ test x
 
-  tests : (p : F) (bs : List Bool) (xs : List X) (q : F) → p ≡ f → ReturnsInTurn R p bs xs q → ReturnsInTurn Tests p bs xs q
+  tests : (p : F) (bs : List Bool) (xs : List X) (q : F) → p ≡ f → ReturnsInTurn R p bs xs q →
+      ReturnsInTurn Tests p bs xs q
   tests p [] xs q e k = k
   tests p (b ∷ bs) [] q e k = absurd k
   tests p (b ∷ bs) (x ∷ xs) q e k =
@@ -18,4 +20,5 @@ module _ {X F : Type 0} (R : F → X → Bool → F → Type 0) (test : X → Bo
 
   pub filtered : (xs ys : List X) → IsFiltered R f xs ys → ys ≡ filter test xs
   filtered xs ys k =
-      filter_from_retain Tests test (λ p x b q r. r) f xs ys (k.0, k.1, k.2, tests f k.0 xs k.1 refl k.3, k.4)
+      filter_from_retain Tests test (λ p x b q r. r) f xs ys
+      (k.0, k.1, k.2, tests f k.0 xs k.1 refl k.3, k.4)

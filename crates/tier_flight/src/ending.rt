@@ -6,7 +6,7 @@ use obj_model::Items;
 use tier_types::{Flight, ReadFlight, ReadList};
 
 // Whether it is this call.
-fn is_call(call: u64, other: Option<u64>) -> bool
+pub(crate) fn is_call(call: u64, other: Option<u64>) -> bool
     ensures { result ≡ is_call call other }
 {
     match other {
@@ -23,7 +23,7 @@ fn without_call(call: u64, other: Option<u64>) -> Option<u64>
 }
 
 // Whether it is another call's read.
-fn is_other(call: u64, read: &ReadFlight) -> bool
+pub(crate) fn is_other(call: u64, read: &ReadFlight) -> bool
     ensures { result ≡ is_other call read.now }
 {
     read.call != call

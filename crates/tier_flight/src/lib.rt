@@ -9,10 +9,15 @@
 mod busy;
 mod ending;
 mod flights;
+mod holding;
+mod index;
 mod joining;
+mod laws;
 mod leaving;
+mod numbers;
 
 pub use busy::{Busy, Want};
 pub use flights::Flights;
+pub use laws::{ends_leave, opids_are_tested, taking_leaves};
 pub use obj_model::Kind;
 pub use tier_types::{Ask, Flight, ReadFlight, ReadList};
