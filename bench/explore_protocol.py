@@ -6,6 +6,7 @@
     explore_protocol.py wrong [RULE]         leaves one rule out at a time, and prints the
                                              shortest run found that breaks a clause; fails
                                              where none is found
+    explore_protocol.py seen [RULE]          the same, with a run in which a client sees it
     explore_protocol.py clauses [CLAUSE]     for each clause a state that breaks it alone, and
                                              the moves by which that breaks another one; fails
                                              where no state is found
@@ -16,7 +17,7 @@ protocol_clauses.py has the clauses.
 import random
 import sys
 
-from protocol_clauses import CLAUSES, broken, numbers
+from protocol_clauses import CLAUSES, broken, numbers, seen
 from protocol_model import (
     DOWN, NUMBERS, RAISED, REQUESTS, UP, Options, System, at, begin, chunks, moves)
 
@@ -51,7 +52,7 @@ def started(names):
 
 # ---- runs
 
-def all_runs(names, depth, most, speaks=False):
+def all_runs(names, depth, most, test=broken, speaks=False):
     first = started(names)
     before, level = {first: None}, [first]
     for step in range(depth):
@@ -61,7 +62,7 @@ def all_runs(names, depth, most, speaks=False):
                 if after in before:
                     continue
                 before[after] = (system, label)
-                wrong = broken(after)
+                wrong = test(after)
                 if wrong:
                     run = [label]
                     while before[system] is not None:
@@ -77,7 +78,7 @@ def all_runs(names, depth, most, speaks=False):
     return len(before), None, None
 
 
-def random_run(names, length, rng, calmness):
+def random_run(names, length, rng, calmness, test=broken):
     """A random run: its moves, the clauses that its last state breaks, and that state."""
     system, run = started(names), []
     for _ in range(length):
@@ -90,53 +91,54 @@ def random_run(names, length, rng, calmness):
             choices = calm
         label, system = rng.choice(choices)
         run.append(label)
-        wrong = broken(system)
+        wrong = test(system)
         if wrong:
             return run, wrong, system
     return run, None, system
 
 
-def replayed(names, run):
+def replayed(names, run, test):
     """The clauses that the run breaks with its last move, or None."""
     system = started(names)
     for label in run:
         system = dict(moves(system)).get(label)
         if system is None:
             return None
-        wrong = broken(system)
+        wrong = test(system)
         if wrong:
             return wrong if label == run[-1] else None
     return None
 
 
-def shortened(names, run, wrong):
+def shortened(names, run, wrong, test):
     """The run without what it does not need."""
     again = True
     while again:
         again = False
         for i in range(len(run) - 1):
             shorter = run[:i] + run[i + 1:]
-            found = replayed(names, shorter)
+            found = replayed(names, shorter, test)
             if found:
                 run, wrong, again = shorter, found, True
                 break
     return run, wrong
 
 
-def wrong_run(rule):
+def wrong_run(rule, test, seeds):
+    """The shortest run found of the protocol without the rule in which the test finds a wrong."""
     names = 2 if rule in OVER_TWO_NAMES else 1
     Options.left_out, Options.fills = rule, rule == "operations are counted from 1"
     Options.vectors, Options.attempts = (0,), 2 if rule in OF_CALLS else 1
-    _, run, wrong = all_runs(names, 9, 40000)
+    _, run, wrong = all_runs(names, 9, 40000, test)
     if run:
         return run, wrong
     best = None
-    for seed in range(60):
+    for seed in range(seeds):
         rng = random.Random(seed)
         for _ in range(80):
-            run, wrong, _ = random_run(names, 34, rng, (0.9, 0.7)[seed % 2])
+            run, wrong, _ = random_run(names, 34, rng, (0.9, 0.7)[seed % 2], test)
             if wrong:
-                run, wrong = shortened(names, run, wrong)
+                run, wrong = shortened(names, run, wrong, test)
                 if best is None or len(run) < len(best[0]):
                     best = (run, wrong)
         if best is not None and seed >= 9:
@@ -327,7 +329,7 @@ def shown(system, state):
 def main():
     what, words = sys.argv[1], sys.argv[2:]
     if what == "all":
-        count, run, wrong = all_runs(1, int(words[0]), 2000000, True)
+        count, run, wrong = all_runs(1, int(words[0]), 2000000, speaks=True)
         print("states", count, "broken", wrong, run)
         return 1 if wrong else 0
     if what == "random":
@@ -345,14 +347,14 @@ def main():
         print("moves", sum(kinds.values()), "doubts", doubts)
         print(", ".join("%s %d" % k for k in sorted(kinds.items())))
         return 0
-    if what == "wrong":
-        missed = 0
+    if what in ("wrong", "seen"):
+        test, seeds, missed = (broken, 60, 0) if what == "wrong" else (seen, 16, 0)
         for rule in words or RULES:
-            best = wrong_run(rule)
+            best = wrong_run(rule, test, seeds)
             missed += best is None
             print(rule, "|", "NOT FOUND" if best is None else "%d moves, %s: %s" % (
                 len(best[0]), ", ".join(best[1]), "; ".join(best[0])), flush=True)
-        return 1 if missed else 0
+        return 1 if missed and what == "wrong" else 0
     if what == "clauses":
         best = clause_states(words or CLAUSES, 1500)
         for clause in words or CLAUSES:

@@ -161,3 +161,34 @@ def broken(system):
     for world in system.worlds:
         found |= {clause for clause, holds in world_clauses(world, system.memory) if not holds}
     return sorted(found)
+
+
+def seen(system):
+    """What a client would see that no plain store shows, in either world."""
+    memory, found = system.memory, set()
+    drivers = [f[4] for f in memory.work if f is not None and f[0] == "write" and f[4] is not None]
+    if sorted(drivers) != sorted(memory.waits):
+        found.add("a call is never answered")
+    for world in system.worlds:
+        if any(clause == "the history is legal" and not holds
+               for clause, holds in owner_clauses(world, memory)):
+            found.add("an act that no plain store makes, or behind its call's answer")
+        if any(p[0] == "not fenced" for p in memory.replies):
+            found.add("the base refuses its own cache")
+        for name, flight in enumerate(memory.work):
+            plain, record = world.plain[name], world.records[name]
+            if record is not None and record[0] != plain:
+                found.add("the cache shows another state")
+            if record is None and flight is None and world.base[name] != plain:
+                found.add("a name without a record is lost")
+            for p in memory.replies:
+                if p[0] == "fenced" or p[1] != world.cache_epoch or p[2] not in numbers(flight):
+                    continue
+                if p[0] == "looked" and flight[0] == "reads" and p[4] != plain:
+                    found.add("a reader is told an old state")
+                if p[0] == "wrote" and flight[0] == "write":
+                    if act(plain, flight[2])[:1] != lasting(p[3])[:1]:
+                        found.add("a writer is told what is not so")
+                    if p[3] == ("fresh",) and flight[3] not in world.acts:
+                        found.add("a call is told of another's act")
+    return sorted(found)

@@ -13,7 +13,8 @@ use Rattle.tier_owners.proofs.Acting.{acting_owned}
 use Rattle.tier_owners.proofs.Closing.{asking_owned, closing_owned}
 use Rattle.tier_owners.proofs.Effects.{answered_still, effect}
 use Rattle.tier_owners.proofs.Quiets.{counting_keeps, quiet_at, quiet_begun, quiet_found, quiet_held, quiet_raised, quiet_rec, quiet_replied, quiet_same, quiet_up}
-use Rattle.tier_owners.proofs.Sending.{beginning_owned, delivering_owned, sending_owned, writing_owned}
+use Rattle.tier_owners.proofs.Sending.{beginning_owned, sending_owned, writing_owned}
+use Rattle.tier_owners.proofs.Delivering.{delivering_owned}
 
 -- the pair is sound, and each Write has its owner
 abbrev IsKept : System → Type 0

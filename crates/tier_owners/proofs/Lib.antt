@@ -1,6 +1,7 @@
 pub mod Spent
 pub mod Quiets
 pub mod Sending
+pub mod Delivering
 pub mod Acting
 pub mod Closing
 pub mod Effects

@@ -43,8 +43,12 @@ pub data Moves (s : System) : System → Type 0 where
       → MayActThere s e op r state answer o
       → Moves s (record {
         tier = delivered (BaseMsg.Write e op r) s.tier;
-        ledger = with_call_act
-            (record { call = o.call; line = o.line; req = r; reply = answer }) s.ledger;
+        ledger = with_call_act (record {
+          call = o.call;
+          line = o.line;
+          req = r;
+          reply = answer;
+        }) s.ledger;
       })
   -- the commit of a message finds no space
   fills : (m : BaseMsg) (used need limit : ℕ) → MayFill s.tier m used need limit
@@ -54,8 +58,12 @@ pub data Moves (s : System) : System → Type 0 where
       → MayActHere s.tier rec r state answer → HasAsked s.ledger call line r → IsOpen s.ledger call
       → Moves s (record {
         tier = acted_here r state moment s.tier;
-        ledger = with_call_act
-            (record { call = call; line = line; req = r; reply = answer }) s.ledger;
+        ledger = with_call_act (record {
+          call = call;
+          line = line;
+          req = r;
+          reply = answer;
+        }) s.ledger;
       })
   -- a promotion takes a chunk, and ends
   gathers : (k : Name) (call op : ℕ) (gather : List Chunk) (ask : Ask) (x : Chunk)
@@ -70,8 +78,8 @@ pub data Moves (s : System) : System → Type 0 where
       → MayClean s.tier k call op seq m blocking drain rec
       → Moves s (with_tier s (cleaned k rec s.tier))
   drains : (k : Name) (call : Option ℕ) (op seq m : ℕ) (blocking drain : Bool) (rec : TierRec)
-      → MayClean s.tier k call op seq m blocking drain rec → Moves s (with_tier s
-      (drained k s.tier))
+      → MayClean s.tier k call op seq m blocking drain rec
+      → Moves s (with_tier s (drained k s.tier))
   -- a clean record is evicted
   evicts : (k : Name) → MayEvict s.tier k → Moves s (with_tier s (evicted k s.tier))
   -- work begins: a write request of a call that asked it, or other work

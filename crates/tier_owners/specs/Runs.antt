@@ -23,8 +23,8 @@ MovesKeep = (s u : System) → IsHeld s → Moves s u → IsHeld u
 
 -- so it holds in every moment of a run
 abbrev pub RunsKeep : Type 0
-RunsKeep = (s : System) (us : List System) → IsHeld s → IsRun s us → (u : System) → IsIn u us
-    → IsHeld u
+RunsKeep =
+    (s : System) (us : List System) → IsHeld s → IsRun s us → (u : System) → IsIn u us → IsHeld u
 
 -- no move forgets or changes an act, nor the store that the history began with
 pub record GoesOn (s u : System) : Type 0 where
