@@ -2,7 +2,8 @@
 use Rattle.std.proofs.Common.{◌≡◌, ◌⊎◌, ◌≤◌, inl, inr, ℕ, Bool, true, false, List, Option, Some, None, Err, refl, sym, ap, ap₂, subst, ◌∙◌, arith}
 use Rattle.std.specs.Prelude.{nat_lt, if◌then◌else◌}
 use Rattle.std.specs.FinMap as fin
-use Rattle.std.proofs.lemmas.Bool.{le-ltb}
+use Rattle.std.proofs.lemmas.Bool.{le-ltb, ltb-false}
+use Rattle.copy_chunk.specs.Chunks.{chunk_at, chunks_of}
 use Rattle.obj_model.specs.Names.{name_fault}
 use Rattle.obj_model.specs.States.{unknown}
 use Rattle.obj_model.specs.declared.change.Pool.TheVariants.{Base}
@@ -11,12 +12,12 @@ use Rattle.obj_model.specs.declared.req.Req.{Req}
 use Rattle.obj_model.specs.declared.state.NameState.{NameState}
 use Rattle.obj_ops.specs.declared.request.Acted.{Acted}
 use Rattle.obj_ops.specs.declared.request.Acted.TheVariants.{Fresh, Again, Stale, Worn as WornActed}
-use Rattle.obj_ops.specs.Acts.{act}
+use Rattle.obj_ops.specs.Acts.{act, look}
 use Rattle.obj_ops.specs.Stores.{Store, replay, state_of}
 use Rattle.rec_codec.specs.Spelling.{SpellsState}
 use Rattle.store_face.specs.declared.fault.StoreFault.{StoreFault}
 use Rattle.store_face.specs.declared.fault.StoreFault.TheVariants.{Disk, BadImage, NoSpace, Worn, NoMemory}
-use Rattle.tier_types.specs.Serving.{Served, in_epoch, name_in, put_by, replies, served}
+use Rattle.tier_types.specs.Serving.{Served, epoch_in, in_epoch, name_in, put_by, replies, served, told_of}
 use Rattle.tier_protocol.specs.Tiers.{Name, BaseMsg, BaseReply, IsIn, Tier}
 use Rattle.tier_protocol.specs.Sound.{IsSound}
 use Rattle.tier_protocol.specs.Moves.{acts_with, delivered, put_at, state_for, with_served}
@@ -38,13 +39,39 @@ use Rattle.tier_join.proofs.Rests.{memory_promises}
 
 -- ---- what was read
 
-pub state_is : (start : Store) (v : View) (z : TwoMaps) (name : Option Name) (s : NameState) → HasStateFor v name s → AreLeft v z → (h : Spells start v.memory z) → state_for name h.base ≡ s
-state_is start v z None s has i h = sym has
-state_is start v z (Some k) s has i h = state_one (fin.get z.base (state_key k)) (state_of h.base k) s (h.based.each k) (has z.base i.1)
+pub state_is : (start : Store) (v : View) (z : TwoMaps) (k : Name) (s : NameState) → HasState v k s → AreLeft v z → (h : Spells start v.memory z) → state_of h.base k ≡ s
+state_is start v z k s has i h = state_one (fin.get z.base (state_key k)) (state_of h.base k) s (h.based.each k) (has z.base i.1)
+
+in_epoch_same : (have e : ℕ) (a b : Served) → (e ≡ have → a ≡ b) → in_epoch have e a ≡ in_epoch have e b
+in_epoch_same have e a b same = by (nat_lt e have) (nat_lt have e) refl refl
+  where
+    by : (c d : Bool) → nat_lt e have ≡ c → nat_lt have e ≡ d
+        → (if c then replies have (BaseReply.OldEpoch have e) else if d then replies have (BaseReply.NotFenced have e) else a)
+        ≡ (if c then replies have (BaseReply.OldEpoch have e) else if d then replies have (BaseReply.NotFenced have e) else b)
+    by true d lt gt = refl
+    by false true lt gt = refl
+    by false false lt gt = same (omega (arith, ltb-false e have lt, ltb-false have e gt))
+
+-- a message is served alike on two states that are one where it is of the base's epoch
+served_same : (have : ℕ) (a s : NameState) (msg : BaseMsg) → (epoch_in msg ≡ have → (k : Name) → name_in msg ≡ Some k → a ≡ s) → served have a msg ≡ served have s msg
+served_same have a s (BaseMsg.Fence e) one = refl
+served_same have a s (BaseMsg.GetChunk e op k at) one =
+    in_epoch_same have e _ _ (λ same. ap {A = NameState} {B = Served} (λ x. replies have (BaseReply.Chunk e op (chunk_at (chunks_of x) at))) (one same k refl))
+served_same have a s (BaseMsg.Look e op k v) one =
+    in_epoch_same have e _ _ (λ same. ap {A = NameState} {B = Served} (λ x. replies have (BaseReply.Looked e op (look x v))) (one same k refl))
+served_same have a s (BaseMsg.Write e op r) one =
+    in_epoch_same have e _ _ (λ same. ap {A = NameState} {B = Served} (λ x. record { epoch = have; put = put_by (act x r); reply = BaseReply.Wrote e op (told_of (act x r)) }) (one same r.name refl))
+served_same have a s (BaseMsg.Install e op k t) one =
+    in_epoch_same have e _ _ (λ same. ap {A = NameState} {B = Served} (λ x. record { epoch = have; put = if nat_lt x.seq t.seq then Some t else None; reply = BaseReply.Installed e op t.seq }) (one same k refl))
+
+-- the state that was read for a message is the pair's
+state_for_is : (start : Store) (v : View) (z : TwoMaps) (name : Option Name) (s : NameState) → HasStateFor v name s → AreLeft v z → (h : Spells start v.memory z) → (k : Name) → name ≡ Some k → state_for name h.base ≡ s
+state_for_is start v z None s has i h k is = absurd (cc)
+state_for_is start v z (Some n) s has i h k is = state_is start v z n s has i h
 
 -- a message is served by what was read
 module _ (start : Store) (v : View) (z : TwoMaps) (msg : BaseMsg) (s : NameState) (out : Served)
-    (on : IsIn msg v.memory.net.wire) (has : HasStateFor v (name_in msg) s) (is : served v.memory.net.base_epoch s msg ≡ out)
+    (on : IsIn msg v.memory.net.wire) (has : epoch_in msg ≡ v.memory.net.base_epoch → HasStateFor v (name_in msg) s) (is : served v.memory.net.base_epoch s msg ≡ out)
     (i : AreLeft v z) (h : Spells start v.memory z) where
   abbrev T : Tier
   T = tier_of start v.memory h.recs h.base
@@ -52,7 +79,7 @@ module _ (start : Store) (v : View) (z : TwoMaps) (msg : BaseMsg) (s : NameState
   pub is_delivered : delivered msg T ≡ with_served msg out T
   is_delivered =
       ap {A = Served} {B = Tier} (λ o. with_served msg o T)
-      (ap (λ x. served v.memory.net.base_epoch x msg) (state_is start v z (name_in msg) s has i h) ∙ is)
+      (served_same v.memory.net.base_epoch (state_for (name_in msg) h.base) s msg (λ same k name. state_for_is start v z (name_in msg) s (has same) i h k name) ∙ is)
 
   pub served_sound : IsSound (with_served msg out T)
   served_sound = subst IsSound is_delivered (delivering T msg h.sound on)
@@ -167,8 +194,8 @@ module _ (v : View) (msg : BaseMsg) (k : Name) (s t : NameState) (out : Served) 
     (none : v.doubt ≡ None) (on : IsIn msg v.memory.net.wire) (name : name_in msg ≡ Some k) (has : HasState v k s)
     (is : served v.memory.net.base_epoch s msg ≡ out) (put : out.put ≡ Some t) (epoch : out.epoch ≡ v.memory.net.base_epoch)
     (named : name_fault k ≡ None) (spelled : SpellsState bytes t) (over : IsOver result) where
-  has_for : HasStateFor v (name_in msg) s
-  has_for = subst (λ n. HasStateFor v n s) (sym name) has
+  has_for : epoch_in msg ≡ v.memory.net.base_epoch → HasStateFor v (name_in msg) s
+  has_for same = subst (λ n. HasStateFor v n s) (sym name) has
 
   which : Putting msg k
   which = putting msg k v.memory.net.base_epoch s t name (ap (λ o. o.put) is ∙ put)
@@ -214,7 +241,7 @@ module _ (v : View) (msg : BaseMsg) (k : Name) (s t : NameState) (out : Served) 
   next_by start z i h (Acts e op r at same) =
       let low : e ≤ v.memory.net.base_epoch = h.sound.epochs.known (BaseMsg.Write e op r) (subst (λ x. IsIn x v.memory.net.wire) at on) in
       let acts : ActsSo v.memory.net.base_epoch e s r t = write_acts v.memory.net.base_epoch e op s t r low (subst (λ x. (served v.memory.net.base_epoch s x).put ≡ Some t) at (ap (λ o. o.put) is ∙ put)) in
-      let here : state_of h.base r.name ≡ s = state_is start v z (Some r.name) s (subst (λ n. HasStateFor v (Some n) s) (sym same) has) i h in
+      let here : state_of h.base r.name ≡ s = state_is start v z r.name s (subst (λ n. HasState v n s) (sym same) has) i h in
       subst (λ x. ActIsNext (replay start v.memory.acts) (Some (doubt_of x t.seq))) (sym at) (
         t,
         acts.1.0,
@@ -262,7 +289,7 @@ fencing_promises v w e bytes result none on later spelled over step =
         base = h.base;
         cached = h.cached;
         based = base_at z.base h.base v.memory.net.base_epoch e bytes spelled h.based;
-        sound = served_sound start v z (BaseMsg.Fence e) unknown out on refl is i h;
+        sound = served_sound start v z (BaseMsg.Fence e) unknown out on (λ same. tt) is i h;
       };
       stays = λ start z fault same i h. no_space_spells start v.memory z (BaseMsg.Fence e) result fault on over same h;
       torn = λ start z i h. inr (record {
@@ -270,7 +297,7 @@ fencing_promises v w e bytes result none on later spelled over step =
         base = h.base;
         cached = h.cached;
         based = base_at z.base h.base v.memory.net.base_epoch e bytes spelled h.based;
-        sound = taken_sound start v z (BaseMsg.Fence e) unknown out on refl is i h;
+        sound = taken_sound start v z (BaseMsg.Fence e) unknown out on (λ same. tt) is i h;
       });
       acts = λ start z i h. tt;
       epochs = later;

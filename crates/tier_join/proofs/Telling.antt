@@ -91,7 +91,7 @@ records_are_plain start v k r is has =
 pub bares_are_plain : BaresArePlain
 bares_are_plain start v k s is none has =
     let h = here start v is in
-    sym (state_is start v (some start v is).0 (Some k) s has (some start v is).1 h)
+    sym (state_is start v (some start v is).0 k s has (some start v is).1 h)
     ∙ (h.sound.names k).clean (ap is_dirty (rec_is start v (some start v is).0 k None none (some start v is).1 h))
 
 pub promotions_are_plain : PromotionsArePlain
@@ -112,7 +112,7 @@ writes_are_plain start v k driver owner op r a is may =
 pub acts_are_plain : ActsArePlain
 acts_are_plain start v op r b s answer is on has acts =
     let h = here start v is in
-    let at : state_of h.base r.name ≡ b = state_is start v (some start v is).0 (Some r.name) b has (some start v is).1 h in
+    let at : state_of h.base r.name ≡ b = state_is start v (some start v is).0 r.name b has (some start v is).1 h in
     acts_on_plain (tier_of start v.memory h.recs h.base) v.memory.net.base_epoch op r s answer h.sound on refl (subst (λ x. act x r ≡ Fresh s answer) (sym at) acts)
 
 pub epochs_are_level : EpochsAreLevel

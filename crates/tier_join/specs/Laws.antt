@@ -17,7 +17,7 @@ use Rattle.store_face.specs.Calls.{Among, Reopened}
 use Rattle.store_face.specs.Views.{Holds, Sound, StoreView}
 use Rattle.store_face.specs.declared.fault.StoreFault.{StoreFault}
 use Rattle.tier_types.specs.Flights.{IsLeftOf}
-use Rattle.tier_types.specs.Serving.{Served, name_in, replies, served}
+use Rattle.tier_types.specs.Serving.{Served, epoch_in, name_in, replies, served}
 use Rattle.tier_protocol.specs.Moves.{acted_here, begun, cleaned, drained, evicted, gathered, landed, promoted, raised_to, sent, stopped_base, stopped_cache, went_up, with_flight, with_served, MayActHere, MayBegin, MayClean, MayEvict, MayGather, MayGoUp, MayLand, MayPromote, MaySend}
 use Rattle.tier_protocol.specs.Tiers.{Name, Ask, AreIn, BaseActed, BaseMsg, BaseReply, Flight, Flights, IsIn, Phase, TierRec}
 use Rattle.tier_join.specs.Group.{Doubt, Memory, View, BeganAt, BothTell, IsGroup, store_now}
@@ -172,11 +172,13 @@ RaisingPromises =
 
 -- ---- messages that the base is given
 
--- a message that changes nothing in the base is answered by what was read there
+-- A message that changes nothing in the base is answered by what was read there; for one of another
+-- epoch nothing has to be read.
 abbrev pub AnsweringPromises : Type 0
 AnsweringPromises =
     (v w : View) (msg : BaseMsg) (s : NameState) (out : Served)
-    → v.doubt ≡ None → IsIn msg v.memory.net.wire → HasStateFor v (name_in msg) s
+    → v.doubt ≡ None → IsIn msg v.memory.net.wire
+    → (epoch_in msg ≡ v.memory.net.base_epoch → HasStateFor v (name_in msg) s)
     → served v.memory.net.base_epoch s msg ≡ out → out.put ≡ None
     → out.epoch ≡ v.memory.net.base_epoch
     → Rests v w → w.memory ≡ after (with_served msg out) v.memory → Promises as_it_is v w

@@ -6,7 +6,6 @@ use Rattle.obj_model.specs.declared.change.Change.{Change}
 use Rattle.obj_model.specs.declared.change.Change.TheVariants.{Put, Remove}
 use Rattle.obj_model.specs.declared.change.Pool.{Pool}
 use Rattle.obj_model.specs.declared.change.Pool.TheVariants.{Cache, Base}
-use Rattle.obj_model.specs.States.{unknown}
 use Rattle.obj_model.specs.declared.state.NameState.{NameState}
 use Rattle.obj_ops.specs.Stores.{Store, replay}
 use Rattle.store_face.specs.Calls.{Among, Committed}
@@ -236,9 +235,9 @@ act_of (BaseMsg.Look e op k v) store = store
 act_of (BaseMsg.Write e op r) store = with_req r store
 act_of (BaseMsg.Install e op k s) store = store
 
--- what the base read for a message: the state of its name
+-- what the base read for a message: the state of its name; a Fence is about none
 abbrev pub HasStateFor : View → Option Name → NameState → Type 0
-HasStateFor v None s = s ≡ unknown
+HasStateFor v None s = Unit {0}
 HasStateFor v (Some k) s = HasState v k s
 
 -- the plain store with the act in doubt, where there is one
