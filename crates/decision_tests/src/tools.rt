@@ -1,6 +1,5 @@
-//! What the tables share: rows as texts, whose words stand apart by single spaces, and names.
-use obj_model::{HitType, Mode, Name, PoolValues};
-use std::alloc::Global;
+//! What the tables share: rows as texts, whose words stand apart by single spaces.
+use obj_model::{HitType, Mode, PoolValues};
 use std::test::Fail;
 
 /// The words of a row that are left.
@@ -33,27 +32,6 @@ impl<'a> Row<'a> {
     pub fn number(&mut self) -> Result<u64, Fail> {
         Ok(self.word().parse::<u64>().ok().ok_or("a number")?)
     }
-
-    /// The next word, a number below 2^32.
-    pub fn small(&mut self) -> Result<u32, Fail> {
-        Ok(self.word().parse::<u32>().ok().ok_or("a small number")?)
-    }
-
-    /// The next word, a number that is a flag: 0 or 1.
-    pub fn flag(&mut self) -> Result<bool, Fail> {
-        Ok(self.number()? == 1)
-    }
-
-    /// Whether no word is left.
-    pub fn is_empty(&self) -> bool {
-        self.rest.is_empty()
-    }
-}
-
-/// The name of these bytes.
-pub fn name(alloc: Global, text: &str) -> Result<Name, Fail> {
-    let bytes = Vec::from_slice(alloc, text.as_bytes())?;
-    Ok(Name::new(bytes).ok().ok_or("a name")?)
 }
 
 /// The values of a pool that sets none.
