@@ -47,7 +47,7 @@ entries_of_pairs [] = refl
 entries_of_pairs (e ∷ es) = ap (λ (l : List Entry). e ∷ l) (entries_of_pairs es)
 
 -- what a table has once more entries came
-more_entries : (done g others : List Entry) → Rising ((done ++ g) ++ others) → fin.entries (fin.from_entries {R = name_cmp} done) ++ map entry_of (map pair_of g) ≡ done ++ g
+pub more_entries : (done g others : List Entry) → Rising ((done ++ g) ++ others) → fin.entries (fin.from_entries {R = name_cmp} done) ++ map entry_of (map pair_of g) ≡ done ++ g
 more_entries done g others rise =
     ap (λ (es : List Entry). es ++ map entry_of (map pair_of g)) (kept_entries done (front_rises done g (front_rises (done ++ g) others rise)))
     ∙ ap (λ (es : List Entry). done ++ es) (entries_of_pairs g)
@@ -77,7 +77,7 @@ flat_table (e ∷ es) = flat_before e (groups (65536 - weight e) es) ∙ ap (λ 
 -- ---- the whole
 
 module _ (ver seq : ℕ) (seen : List Kept) where
-  abbrev with_parts : List ℕ → Table → Table → NameState
+  abbrev pub with_parts : List ℕ → Table → Table → NameState
   with_parts body attrs omap = record { ver = ver; seq = seq; obj = Some (record { body = body; attrs = attrs; omap = omap }); seen = seen }
 
   body_made : (attrs omap : Table) (n off : ℕ) (done bytes : List ℕ) → length bytes ≤ 65536 * n → made_pieces (with_parts done attrs omap) (body_pieces n off bytes) ≡ with_parts (done ++ bytes) attrs omap
@@ -109,22 +109,38 @@ module _ (ver seq : ℕ) (seen : List Kept) where
       ∙ omap_made body attrs (last_key key g) (done ++ g) gs (subst Rising (sym flat) rise)
       ∙ ap (λ (es : List Entry). with_parts body attrs (fin.from_entries es)) flat
 
+  -- what the pieces of a body make
+  pub body_comes : (o : Obj) → made_pieces (with_parts [] fin.empty fin.empty) (body_pieces (pieces_in (length o.body)) 0 o.body)
+      ≡ with_parts o.body fin.empty fin.empty
+  body_comes o = body_made fin.empty fin.empty (pieces_in (length o.body)) 0 [] o.body (pieces_cover (length o.body))
+
+  -- then those of the attributes
+  pub attrs_come : (o : Obj) → made_pieces (with_parts o.body fin.empty fin.empty) (table_pieces Attrs None (table_groups (fin.entries o.attrs)))
+      ≡ with_parts o.body o.attrs fin.empty
+  attrs_come o =
+      let all = flat_table (fin.entries o.attrs) in
+      attrs_made o.body fin.empty None [] (table_groups (fin.entries o.attrs)) (subst Rising (sym all) (entries_rise o.attrs))
+      ∙ ap (λ (t : Table). with_parts o.body t fin.empty) (ap fin.from_entries all ∙ made_of_entries o.attrs)
+
+  -- then those of the omap
+  omap_comes : (o : Obj) → made_pieces (with_parts o.body o.attrs fin.empty) (table_pieces Omap None (table_groups (fin.entries o.omap)))
+      ≡ with_parts o.body o.attrs o.omap
+  omap_comes o =
+      let all = flat_table (fin.entries o.omap) in
+      omap_made o.body o.attrs None [] (table_groups (fin.entries o.omap)) (subst Rising (sym all) (entries_rise o.omap))
+      ∙ ap (λ (t : Table). with_parts o.body o.attrs t) (ap fin.from_entries all ∙ made_of_entries o.omap)
+
   object_made : (o : Obj) → made_pieces (with_parts [] fin.empty fin.empty) (object_pieces (Some o)) ≡ with_parts o.body o.attrs o.omap
   unfolding object_pieces
   object_made o =
       let body = body_pieces (pieces_in (length o.body)) 0 o.body in
       let attrs = table_pieces Attrs None (table_groups (fin.entries o.attrs)) in
       let omap = table_pieces Omap None (table_groups (fin.entries o.omap)) in
-      let all_attrs = flat_table (fin.entries o.attrs) in
-      let all_omap = flat_table (fin.entries o.omap) in
       made_append (with_parts [] fin.empty fin.empty) body (attrs ++ omap)
-      ∙ ap (λ (s : NameState). made_pieces s (attrs ++ omap)) (body_made fin.empty fin.empty (pieces_in (length o.body)) 0 [] o.body (pieces_cover (length o.body)))
+      ∙ ap (λ (s : NameState). made_pieces s (attrs ++ omap)) (body_comes o)
       ∙ made_append (with_parts o.body fin.empty fin.empty) attrs omap
-      ∙ ap (λ (s : NameState). made_pieces s omap)
-      (attrs_made o.body fin.empty None [] (table_groups (fin.entries o.attrs)) (subst Rising (sym all_attrs) (entries_rise o.attrs))
-      ∙ ap (λ (t : Table). with_parts o.body t fin.empty) (ap fin.from_entries all_attrs ∙ made_of_entries o.attrs))
-      ∙ omap_made o.body o.attrs None [] (table_groups (fin.entries o.omap)) (subst Rising (sym all_omap) (entries_rise o.omap))
-      ∙ ap (λ (t : Table). with_parts o.body o.attrs t) (ap fin.from_entries all_omap ∙ made_of_entries o.omap)
+      ∙ ap (λ (s : NameState). made_pieces s omap) (attrs_come o)
+      ∙ omap_comes o
 
 none_made : (ver seq : ℕ) (seen : List Kept) → made_pieces (with_part unknown Head (part.Head ver seq false)) (object_pieces None ++ (Seen, part.Seen seen) ∷ []) ≡ record { ver = ver; seq = seq; obj = None; seen = seen }
 unfolding object_pieces

@@ -31,7 +31,7 @@ use Rattle.copy_chunk.proofs.Keys.{and_both, taken_rise}
 
 -- ---- tables
 
-abbrev Short : List Entry → Type 0
+abbrev pub Short : List Entry → Type 0
 Short es = AllByRecursion (λ (v : List ℕ). length v ≤ 4096) (map (λ e. e.1) es)
 
 pairs_short : (last : Option (List ℕ)) (ps : List Pair) → pairs_fit last ps ≡ true → Short (map entry_of ps)
@@ -80,7 +80,7 @@ raise_clients : (i j : ℕ) (xs : List ℕ) → nat_cmp i j ≡ Less → AllByRe
 raise_clients i j [] h all = tt
 raise_clients i j (x ∷ xs) h all = (nat_cmp_total.trans i j x h all.0, raise_clients i j xs h all.1)
 
-abbrev Clients : List Kept → List ℕ
+abbrev pub Clients : List Kept → List ℕ
 Clients ks = map (λ (k : Kept). k.client) ks
 
 kepts_lawful : (last : ℕ) (ks : List Kept) → kepts_fit last ks ≡ true → AllByRecursion IsKept ks × AllByRecursion (λ y. nat_cmp last y ≡ Less) (Clients ks) × IsStrictlySortedBy nat_cmp (Clients ks)

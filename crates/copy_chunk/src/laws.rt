@@ -1,10 +1,11 @@
 //! Laws of chunks and their gathering, for those who carry chunks from one pool to the other.
-ghost use Rattle.std.specs.Prelude.{◌≡◌, List, Some, None};
+ghost use Rattle.std.specs.Prelude.{◌≡◌, ◌++◌, ◌∷◌, List, [], Some, None, true};
+ghost use Rattle.obj_model.specs.States.{IsState};
 ghost use Rattle.obj_model.specs.declared.state.NameState.{NameState};
 ghost use Rattle.copy_chunk.specs.declared.chunk.Chunk.{Chunk};
 ghost use Rattle.copy_chunk.specs.declared.chunk.Cursor.{Cursor};
-ghost use Rattle.copy_chunk.specs.Chunks.{chunks_of};
-ghost use Rattle.copy_chunk.specs.Gathers.{wanted, joined, IsFront, IsChain, AreOf, GoesOn};
+ghost use Rattle.copy_chunk.specs.Chunks.{chunks_of, chunk_at};
+ghost use Rattle.copy_chunk.specs.Gathers.{wanted, joined, IsFront, IsChain, AreOf, GoesOn, fits};
 
 /// The chunks of a state join to it, its kept requests and counts included.
 #[tactic(auto, using(crate::proofs::Fronts::chunks_join))]
@@ -30,4 +31,11 @@ pub fn fronts_go_on()
 #[tactic(auto, using(crate::proofs::Fronts::chain_is_front))]
 pub fn chains_are_fronts()
     ensures { (s : NameState) (cs : List Chunk) → IsChain cs → AreOf s cs → IsFront cs (chunks_of s) }
+{}
+
+/// Behind its first chunks the next chunk of a lawful state fits, and so does the one at the place
+/// that is wanted: a gather of chunks of one lawful state takes each that it wants.
+pub fn own_chunks_fit()
+    ensures next { (s : NameState) (cs : List Chunk) (c : Chunk) → IsState s → IsFront (cs ++ c ∷ []) (chunks_of s) → fits cs c ≡ true }
+    ensures there { (s : NameState) (cs : List Chunk) (c : Chunk) (at : Cursor) → IsState s → IsFront cs (chunks_of s) → wanted cs ≡ Some at → chunk_at (chunks_of s) at ≡ Some c → fits cs c ≡ true }
 {}
