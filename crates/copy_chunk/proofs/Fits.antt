@@ -1,44 +1,10 @@
 -- The chunks of a lawful state fit one behind the other.
-use Rattle.std.proofs.Common.{
-  ◌≡◌,
-  ◌≤◌,
-  ◌<◌,
-  ◌+◌,
-  ◌-◌,
-  ◌/◌,
-  ◌^◌,
-  ℕ,
-  zero,
-  suc,
-  Bool,
-  true,
-  false,
-  cond,
-  ◌&&◌,
-  List,
-  [],
-  ◌∷◌,
-  ◌++◌,
-  map,
-  length,
-  take,
-  drop,
-  Option,
-  Some,
-  None,
-  refl,
-  sym,
-  ap,
-  subst,
-  ◌∙◌,
-  append_assoc,
-  arith,
-  length-append,
-  le-leb,
-  lt-ltb,
-}
+use Rattle.std.proofs.Common.{◌≡◌, ◌≤◌, ◌<◌, ◌+◌, ◌-◌, ◌^◌, ℕ, zero, suc, Bool, true, false}
+use Rattle.std.proofs.Common.{cond, ◌&&◌, List, [], ◌∷◌, ◌++◌, map, length, take, drop, Option}
+use Rattle.std.proofs.Common.{Some, None, refl, sym, ap, subst, ◌∙◌, append_assoc, arith}
+use Rattle.std.proofs.Common.{length-append, le-leb, lt-ltb}
 use Rattle.std.specs.Prelude.{nat_le, nat_lt, is_some}
-use Rattle.std.specs.List.{AllByRecursion, All, flat_map}
+use Rattle.std.specs.List.{AllByRecursion, flat_map}
 use Rattle.std.specs.List.Sorted.{IsStrictlySortedBy}
 use Rattle.std.specs.Ordering.{nat_cmp, is_lt}
 use Rattle.std.specs.declared.cmp.Ordering.TheVariants.{Less}
@@ -59,57 +25,19 @@ use Rattle.obj_model.specs.declared.state.NameState.{NameState}
 use Rattle.obj_model.proofs.NameMaps.{kept_entries}
 use Rattle.copy_chunk.specs.declared.chunk.Chunk.{Chunk}
 use Rattle.copy_chunk.specs.declared.chunk.Cursor.{Cursor}
-use Rattle.copy_chunk.specs.declared.chunk.Cursor.TheVariants.{Head, Body, Attrs, Omap, Seen}
-use Rattle.copy_chunk.specs.declared.chunk.Part.{Part}
+use Rattle.copy_chunk.specs.declared.chunk.Cursor.TheVariants.{Head, Attrs, Omap, Seen}
 use Rattle.copy_chunk.specs.declared.chunk.Part.TheVariants as part
-use Rattle.copy_chunk.specs.Chunks.{
-  Entry,
-  Piece,
-  pair_of,
-  pieces_in,
-  body_pieces,
-  weight,
-  before_first,
-  groups,
-  table_groups,
-  last_key,
-  table_pieces,
-  object_pieces,
-  pieces_of,
-  first_place,
-  linked,
-  chunks_of,
-  chunk_at,
-}
-use Rattle.copy_chunk.specs.Gathers.{
-  with_part,
-  made_from,
-  made,
-  wanted,
-  IsFront,
-  entries_with,
-  leads,
-  goes_behind,
-  pairs_fit,
-  table_fits,
-  reply_fits,
-  kept_fits,
-  kepts_fit,
-  part_fits,
-  chunk_fits,
-  fits,
-}
+use Rattle.copy_chunk.specs.Chunks.{Entry, Piece, pair_of, pieces_in, body_pieces, weight}
+use Rattle.copy_chunk.specs.Chunks.{before_first, groups, table_groups, last_key, table_pieces}
+use Rattle.copy_chunk.specs.Chunks.{object_pieces, pieces_of, first_place, linked, chunks_of}
+use Rattle.copy_chunk.specs.Chunks.{chunk_at}
+use Rattle.copy_chunk.specs.Gathers.{with_part, made_from, made, wanted, IsFront, entries_with}
+use Rattle.copy_chunk.specs.Gathers.{leads, goes_behind, pairs_fit, table_fits, reply_fits}
+use Rattle.copy_chunk.specs.Gathers.{kept_fits, kepts_fit, part_fits, chunk_fits, fits}
 use Rattle.copy_chunk.proofs.Tables.{Table, Rising, entries_rise, front_rises}
 use Rattle.copy_chunk.proofs.Places.{rank, Upto, Behind, Above, above_tail, object_apart}
-use Rattle.copy_chunk.proofs.Joins.{
-  made_pieces,
-  entries_of_pairs,
-  more_entries,
-  flat_table,
-  with_parts,
-  body_comes,
-  attrs_come,
-}
+use Rattle.copy_chunk.proofs.Joins.{made_pieces, more_entries, flat_table}
+use Rattle.copy_chunk.proofs.Joins.{with_parts, body_comes, attrs_come}
 use Rattle.copy_chunk.proofs.Lawful.{Short, Clients}
 use Rattle.copy_chunk.proofs.Fronts.{front_more}
 
@@ -150,7 +78,8 @@ abbrev FitOn : NameState → List Piece → Type 0
 FitOn s [] = Unit {0}
 FitOn s (p ∷ ps) = (part_fits s p.0 p.1 ≡ true) × FitOn (with_part s p.0 p.1) ps
 
-fit_append : (s : NameState) (ps qs : List Piece) → FitOn s ps → FitOn (made_pieces s ps) qs → FitOn s (ps ++ qs)
+fit_append : (s : NameState) (ps qs : List Piece) → FitOn s ps → FitOn (made_pieces s ps) qs
+    → FitOn s (ps ++ qs)
 fit_append s [] qs h g = g
 fit_append s (p ∷ ps) qs h g = (h.0, fit_append (with_part s p.0 p.1) ps qs h.1 g)
 
@@ -168,8 +97,10 @@ pairs_behind : (key : List ℕ) (es : List Entry) → Above key es → Rising es
 pairs_behind key [] above rise short = refl
 pairs_behind key (e ∷ es) above rise short =
     let tail = above_tail e es rise in
-    both (goes_behind (Some key) e.0 && nat_le (length e.1) 4096) (pairs_fit (Some e.0) (map pair_of es))
-    (both (goes_behind (Some key) e.0) (nat_le (length e.1) 4096) (key_behind key e.0 above.0) (le-leb _ _ short.0))
+    both (goes_behind (Some key) e.0 && nat_le (length e.1) 4096)
+    (pairs_fit (Some e.0) (map pair_of es))
+    (both (goes_behind (Some key) e.0) (nat_le (length e.1) 4096) (key_behind key e.0 above.0)
+    (le-leb _ _ short.0))
     (pairs_behind e.0 es tail.0 tail.1 short.1)
 
 first_behind : (es : List Entry) → Rising es → Short es → pairs_fit None (map pair_of es) ≡ true
@@ -218,7 +149,8 @@ abbrev Behinds : List (List Entry) → Type 0
 Behinds [] = Unit {0}
 Behinds (g ∷ gs) = AllByRecursion Full gs
 
-full_before : (e : Entry) (gs : List (List Entry)) → Behinds gs → AllByRecursion Full (before_first e gs)
+full_before : (e : Entry) (gs : List (List Entry)) → Behinds gs
+    → AllByRecursion Full (before_first e gs)
 full_before e [] h = (omega arith, tt)
 full_before e (g ∷ gs) h = (omega arith, h)
 
@@ -242,7 +174,8 @@ groups_full room (e ∷ es) =
 table_full : (es : List Entry) → AllByRecursion Full (table_groups es)
 unfolding table_groups
 table_full [] = tt
-table_full (e ∷ es) = full_before e (groups (65536 - weight e) es) (groups_full (65536 - weight e) es)
+table_full (e ∷ es) =
+    full_before e (groups (65536 - weight e) es) (groups_full (65536 - weight e) es)
 
 short_front : (xs ys : List Entry) → Short (xs ++ ys) → Short xs
 short_front [] ys h = tt
@@ -260,8 +193,10 @@ module _ (place : Option (List ℕ) → Cursor) (most : ℕ) (with_table : Table
     (test : (t : Table) (key : Option (List ℕ)) (ps : List Pair)
     → part_fits (with_table t) (place key) (part.Pairs ps) ≡ table_fits most (fin.entries t) ps)
     (grow : (t : Table) (key : Option (List ℕ)) (ps : List Pair)
-    → with_part (with_table t) (place key) (part.Pairs ps) ≡ with_table (fin.from_entries (entries_with t ps))) where
-  groups_fit : (key : Option (List ℕ)) (done : List Entry) (gs : List (List Entry)) → Rising (done ++ flat gs)
+    → with_part (with_table t) (place key) (part.Pairs ps)
+    ≡ with_table (fin.from_entries (entries_with t ps))) where
+  groups_fit : (key : Option (List ℕ)) (done : List Entry) (gs : List (List Entry))
+      → Rising (done ++ flat gs)
       → Short (flat gs) → length done + length (flat gs) ≤ most → AllByRecursion Full gs
       → FitOn (with_table (fin.from_entries done)) (table_pieces place key gs)
   unfolding table_pieces
@@ -277,13 +212,16 @@ module _ (place : Option (List ℕ) → Cursor) (most : ℕ) (with_table : Table
       ap length one ∙ length-append g (flat gs) in
       let there : fin.entries (fin.from_entries {R = name_cmp} done) ≡ done =
       kept_entries done (front_rises done g front) in
-      let next : with_part (with_table (fin.from_entries done)) (place key) (part.Pairs (map pair_of g))
+      let next : with_part (with_table (fin.from_entries done)) (place key)
+      (part.Pairs (map pair_of g))
       ≡ with_table (fin.from_entries (done ++ g)) =
       grow (fin.from_entries done) key (map pair_of g)
-      ∙ ap (λ (es : List Entry). with_table (fin.from_entries es)) (more_entries done g (flat gs) rising) in (
+      ∙ ap (λ (es : List Entry). with_table (fin.from_entries es))
+      (more_entries done g (flat gs) rising) in (
         test (fin.from_entries done) key (map pair_of g)
             ∙ ap (λ (es : List Entry). table_fits most es (map pair_of g)) there
-            ∙ group_fits most done g front (short_front g (flat gs) held) full.0 (omega (arith, count, few)),
+            ∙ group_fits most done g front (short_front g (flat gs) held) full.0
+            (omega (arith, count, few)),
         subst (λ (s : NameState). FitOn s (table_pieces place (last_key key g) gs)) (sym next)
             (groups_fit (last_key key g) (done ++ g) gs rising (short_end g (flat gs) held)
             (omega (arith, count, few, length-append done g)) full.1),
@@ -294,7 +232,8 @@ module _ (place : Option (List ℕ) → Cursor) (most : ℕ) (with_table : Table
   table_fit t lawful =
       let all : flat (table_groups (fin.entries t)) ≡ fin.entries t = flat_table (fin.entries t) in
       groups_fit None [] (table_groups (fin.entries t)) (subst Rising (sym all) (entries_rise t))
-      (subst Short (sym all) (recursion_from_All (λ v. length v ≤ 4096) (map (λ e. e.1) (fin.entries t)) lawful.short))
+      (subst Short (sym all) (recursion_from_All (λ v. length v ≤ 4096)
+      (map (λ e. e.1) (fin.entries t)) lawful.short))
       (omega (arith, ap length all, len-entries t, lawful.few)) (table_full (fin.entries t))
 
 -- ---- the kept requests
@@ -306,7 +245,8 @@ reply_is_lawful (Refused at why ver) h = lt-ltb at 16 h
 kept_is_lawful : (k : Kept) → IsKept k → kept_fits k ≡ true
 kept_is_lawful k h =
     both (nat_le k.client 256 && nat_le k.tid (2 ^ 62)) (reply_fits k.reply)
-    (both (nat_le k.client 256) (nat_le k.tid (2 ^ 62)) (le-leb _ _ h.client_high) (le-leb _ _ h.tid_high))
+    (both (nat_le k.client 256) (nat_le k.tid (2 ^ 62)) (le-leb _ _ h.client_high)
+    (le-leb _ _ h.tid_high))
     (reply_is_lawful k.reply h.reply_lawful)
 
 above_number : (i j : ℕ) → nat_cmp i j ≡ Less → i < j
@@ -321,11 +261,13 @@ kepts_rise last (k ∷ ks) above all rise =
     (both (nat_lt last k.client) (kept_fits k) (lt-ltb _ _ above.0) (kept_is_lawful k all.0))
     (kepts_rise k.client ks (numbers k.client (Clients ks) rise.0) all.1 rise.1)
   where
-    numbers : (i : ℕ) (ys : List ℕ) → AllByRecursion (λ y. nat_cmp i y ≡ Less) ys → AllByRecursion (λ y. i < y) ys
+    numbers : (i : ℕ) (ys : List ℕ) → AllByRecursion (λ y. nat_cmp i y ≡ Less) ys
+        → AllByRecursion (λ y. i < y) ys
     numbers i [] h = tt
     numbers i (y ∷ ys) h = (above_number i y h.0, numbers i ys h.1)
 
-clients_rise : (ks : List Kept) → AllByRecursion IsKept ks → AllByRecursion (λ y. 0 < y) (Clients ks)
+clients_rise : (ks : List Kept) → AllByRecursion IsKept ks
+    → AllByRecursion (λ y. 0 < y) (Clients ks)
 clients_rise [] h = tt
 clients_rise (k ∷ ks) h = (omega (arith, h.0.client_low), clients_rise ks h.1)
 
@@ -341,27 +283,33 @@ module _ (ver seq : ℕ) (seen : List Kept) where
       let cut = length-append (take 65536 bytes) (drop 65536 bytes) in
       let all = ap length (take-append-drop 65536 bytes) in
       let left = length-drop 65536 bytes in (
-        both (nat_lt 0 (length (take 65536 bytes))) (nat_le (length done + length (take 65536 bytes)) 1048576)
+        both (nat_lt 0 (length (take 65536 bytes)))
+            (nat_le (length done + length (take 65536 bytes)) 1048576)
             (lt-ltb _ _ (omega (arith, cut, all, left, e)))
             (le-leb _ _ (omega (arith, cut, all, few))),
         body_fit attrs omap n (off + 65536) (done ++ take 65536 bytes) (drop 65536 bytes)
-            (omega (arith, left, e)) (omega (arith, cut, all, few, length-append done (take 65536 bytes))),
+            (omega (arith, left, e)) (omega
+            (arith, cut, all, few, length-append done (take 65536 bytes))),
       )
 
-  object_fit : (o : Obj) → IsObj o → FitOn (with_parts ver seq seen [] fin.empty fin.empty) (object_pieces (Some o))
+  object_fit : (o : Obj) → IsObj o
+      → FitOn (with_parts ver seq seen [] fin.empty fin.empty) (object_pieces (Some o))
   unfolding object_pieces
   object_fit o lawful =
       let body = body_pieces (pieces_in (length o.body)) 0 o.body in
       let attrs = table_pieces Attrs None (table_groups (fin.entries o.attrs)) in
       let omap = table_pieces Omap None (table_groups (fin.entries o.omap)) in
       fit_append (with_parts ver seq seen [] fin.empty fin.empty) body (attrs ++ omap)
-      (body_fit fin.empty fin.empty (pieces_in (length o.body)) 0 [] o.body refl (omega (arith, lawful.body_short)))
+      (body_fit fin.empty fin.empty (pieces_in (length o.body)) 0 [] o.body refl
+      (omega (arith, lawful.body_short)))
       (subst (λ (s : NameState). FitOn s (attrs ++ omap)) (sym (body_comes ver seq seen o))
       (fit_append (with_parts ver seq seen o.body fin.empty fin.empty) attrs omap
-      (table_fit Attrs 64 (λ t. with_parts ver seq seen o.body t fin.empty) (λ t key ps. refl) (λ t key ps. refl)
+      (table_fit Attrs 64 (λ t. with_parts ver seq seen o.body t fin.empty) (λ t key ps. refl)
+      (λ t key ps. refl)
       o.attrs lawful.attrs_lawful)
       (subst (λ (s : NameState). FitOn s omap) (sym (attrs_come ver seq seen o))
-      (table_fit Omap 1024 (λ t. with_parts ver seq seen o.body o.attrs t) (λ t key ps. refl) (λ t key ps. refl)
+      (table_fit Omap 1024 (λ t. with_parts ver seq seen o.body o.attrs t) (λ t key ps. refl)
+      (λ t key ps. refl)
       o.omap lawful.omap_lawful))))
 
 -- the pieces of a lawful state fit one behind the other
@@ -370,25 +318,33 @@ unfolding pieces_of object_pieces
 all_fit s lawful =
     let kept = recursion_from_All IsKept s.seen lawful.each_kept in
     let seen = kepts_rise 0 s.seen (clients_rise s.seen kept) kept lawful.rising in
-    let head = both (nat_le s.ver s.seq) (nat_le s.seq (2 ^ 62)) (le-leb _ _ lawful.counted.accepted) (le-leb _ _ lawful.counted.acted) in
+    let head =
+    both (nat_le s.ver s.seq) (nat_le s.seq (2 ^ 62)) (le-leb _ _ lawful.counted.accepted)
+    (le-leb _ _ lawful.counted.acted) in
     (head, rest s.ver s.seq s.seen s.obj lawful.object seen)
   where
-    rest : (ver seq : ℕ) (ks : List Kept) (obj : Option Obj) → IsObjOrNone obj → kepts_fit 0 ks ≡ true
-        → FitOn (with_part unknown Head (part.Head ver seq (is_some obj))) (object_pieces obj ++ (Seen, part.Seen ks) ∷ [])
+    rest : (ver seq : ℕ) (ks : List Kept) (obj : Option Obj) → IsObjOrNone obj
+        → kepts_fit 0 ks ≡ true
+        → FitOn (with_part unknown Head (part.Head ver seq (is_some obj)))
+        (object_pieces obj ++ (Seen, part.Seen ks) ∷ [])
     rest ver seq ks None lawful seen = (seen, tt)
     rest ver seq ks (Some o) lawful seen =
-        fit_append (with_part unknown Head (part.Head ver seq true)) (object_pieces (Some o)) ((Seen, part.Seen ks) ∷ [])
+        fit_append (with_part unknown Head (part.Head ver seq true)) (object_pieces (Some o))
+        ((Seen, part.Seen ks) ∷ [])
         (object_fit ver seq [] o lawful) (seen, tt)
 
 -- ---- chunks
 
-next_fits : (s : NameState) (end : Option Cursor) (ps : List Piece) (cs behind : List Chunk) (c : Chunk)
-    → FitOn s ps → LeadOn end ps → linked end ps ≡ cs ++ c ∷ behind → chunk_fits (made_from s cs) c ≡ true
+next_fits : (s : NameState) (end : Option Cursor) (ps : List Piece) (cs behind : List Chunk)
+    (c : Chunk)
+    → FitOn s ps → LeadOn end ps → linked end ps ≡ cs ++ c ∷ behind
+    → chunk_fits (made_from s cs) c ≡ true
 next_fits s end [] [] behind c fit lead whole = absurd cc
 next_fits s end [] (d ∷ cs) behind c fit lead whole = absurd cc
 next_fits s end (p ∷ ps) [] behind c fit lead whole =
     let first : record { at = p.0; part = p.1; next = first_place end ps } ≡ c = cc in
-    subst (λ (d : Chunk). chunk_fits s d ≡ true) first (both (leads p.0 (first_place end ps)) (part_fits s p.0 p.1) lead.0 fit.0)
+    subst (λ (d : Chunk). chunk_fits s d ≡ true) first
+    (both (leads p.0 (first_place end ps)) (part_fits s p.0 p.1) lead.0 fit.0)
 next_fits s end (p ∷ ps) (d ∷ cs) behind c fit lead whole =
     let first : record { at = p.0; part = p.1; next = first_place end ps } ≡ d = cc in
     let rest : linked end ps ≡ cs ++ c ∷ behind = cc in
@@ -396,7 +352,8 @@ next_fits s end (p ∷ ps) (d ∷ cs) behind c fit lead whole =
     (next_fits (with_part s p.0 p.1) end ps cs behind c fit.1 lead.1 rest)
 
 -- behind the first chunks of a lawful state its next chunk fits
-pub own_chunk_fits : (s : NameState) (cs : List Chunk) (c : Chunk) → IsState s → IsFront (cs ++ c ∷ []) (chunks_of s)
+pub own_chunk_fits : (s : NameState) (cs : List Chunk) (c : Chunk) → IsState s
+    → IsFront (cs ++ c ∷ []) (chunks_of s)
     → fits cs c ≡ true
 unfolding chunks_of fits made
 own_chunk_fits s cs c lawful front =
@@ -405,6 +362,7 @@ own_chunk_fits s cs c lawful front =
 
 -- so does the chunk at the place that is wanted
 pub wanted_chunk_fits : (s : NameState) (cs : List Chunk) (c : Chunk) (at : Cursor) → IsState s
-    → IsFront cs (chunks_of s) → wanted cs ≡ Some at → chunk_at (chunks_of s) at ≡ Some c → fits cs c ≡ true
+    → IsFront cs (chunks_of s) → wanted cs ≡ Some at → chunk_at (chunks_of s) at ≡ Some c
+    → fits cs c ≡ true
 wanted_chunk_fits s cs c at lawful front e there =
     own_chunk_fits s cs c lawful (front_more cs s at c front e there)
