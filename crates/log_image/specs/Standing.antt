@@ -23,7 +23,8 @@ ends_at end journal = record { start = journal.start; next = journal.next; end =
 
 -- The log stands on the disk with this map, whatever a stop leaves: its bytes up to its closed gate
 -- are settled.
-pub record LogStands (role : Pool) (pair : ℕ) (journal : Journal) (table : Table) (d : DiskMoment) : Type 0 where
+pub record LogStands (role : Pool) (pair : ℕ) (journal : Journal) (table : Table)
+    (d : DiskMoment) : Type 0 where
   pub payloads : List (List ℕ)
   pub txns : List (List Change)
   pub stands : StandsAs journal (head role pair ∷ payloads) d
