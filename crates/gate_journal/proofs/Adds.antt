@@ -1,24 +1,22 @@
 -- What stands of a journal, and what a stop leaves of it, while a record is added.
-use Rattle.std.specs.Prelude.{◌≡◌, ◌≢◌, ◌⊎◌, ◌≤◌, ◌<◌, ◌+◌, ◌-◌, ◌^◌, ℕ, List, [], ◌∷◌, ◌++◌}
-use Rattle.std.specs.Prelude.{length, take, slice_index, false, ◌&&◌, nat_le, nat_lt, Option, Some}
-use Rattle.std.specs.Prelude.{None, refl}
+use Rattle.std.specs.Prelude.{◌≡◌, ◌⊎◌, ◌≤◌, ◌<◌, ◌+◌, ◌-◌, ◌^◌, ℕ, List, [], ◌∷◌, ◌++◌}
+use Rattle.std.specs.Prelude.{length, take, slice_index, false, ◌&&◌, nat_le, nat_lt}
+use Rattle.std.specs.Prelude.{refl}
 use Rattle.std.proofs.Common.{◌∙◌, sym, subst, ap, arith, inl, inr}
 use Rattle.std.proofs.lemmas.Bool.{cases_lt, cases_eq}
 use Rattle.std.proofs.lemmas.Bool.Decides.{nat_tests}
 use Rattle.std.proofs.lemmas.List.{length-take}
-use Rattle.tier_outside.specs.Disk.{DiskMoment, IsImage, settled, written, RangeStands, StopsIn}
-use Rattle.tier_outside.specs.DiskMoments.{last, grown, Now, Then, Leaves}
+use Rattle.tier_outside.specs.Disk.{DiskMoment, settled, written, RangeStands, StopsIn}
 use Rattle.gate_journal.specs.declared.journal.Journal.{Journal}
-use Rattle.gate_journal.specs.Journals.{AreRecords, IsClosed, Spells, behind_gate}
-use Rattle.gate_journal.specs.Stands.{StandsAs, HoldsWithOrWithout, gate_alone, longer, recorded}
-use Rattle.gate_journal.specs.Steps.Writing.{AddStops, GateCloses, staged, opened}
+use Rattle.gate_journal.specs.Journals.{AreRecords, Spells, behind_gate}
+use Rattle.gate_journal.specs.Stands.{StandsAs, HoldsWithOrWithout, longer, recorded}
+use Rattle.gate_journal.specs.Steps.Writing.{AddStops, staged, opened}
 use Rattle.gate_journal.proofs.Images.{untouched_more, stops_wider, stops_again, stops_front}
 use Rattle.gate_journal.proofs.Images.{stops_behind, stops_within}
-use Rattle.gate_journal.proofs.Records.{SameBytes, same_part, ThereAt, index_take, index_cons}
-use Rattle.gate_journal.proofs.Records.{records_order, records_frame, spells_frame, spells_push}
+use Rattle.gate_journal.proofs.Records.{SameBytes, ThereAt, index_take, index_cons}
+use Rattle.gate_journal.proofs.Records.{records_frame, spells_frame, spells_push}
 use Rattle.gate_journal.proofs.Records.{there_record, length_behind}
-use Rattle.gate_journal.proofs.Steps.{leaves_weaker, leaves_both}
-use Rattle.gate_journal.proofs.Writes.{written_in, written_front, written_over, opened_there}
+use Rattle.gate_journal.proofs.Writes.{written_in, written_front, opened_there}
 use Rattle.gate_journal.proofs.Writes.{opened_once}
 use Rattle.tier_outside.proofs.DiskImages.{length_written}
 

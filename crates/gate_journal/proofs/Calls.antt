@@ -1,6 +1,6 @@
 -- The clauses of `start` and `append`, from those of their steps.
-use Rattle.std.specs.Prelude.{◌≡◌, ◌⊎◌, ◌≤◌, ◌<◌, ◌+◌, ◌^◌, ℕ, List, [], ◌∷◌, ◌++◌, length, take}
-use Rattle.std.specs.Prelude.{slice_index, Option, Some, None, refl}
+use Rattle.std.specs.Prelude.{◌≡◌, ◌⊎◌, ◌≤◌, ◌<◌, ◌+◌, ◌^◌, ℕ, List, [], ◌∷◌, ◌++◌, length}
+use Rattle.std.specs.Prelude.{Option, Some, None, refl}
 use Rattle.std.proofs.Common.{◌∙◌, sym, subst, ap, arith, inl, inr}
 use Rattle.std.proofs.lemmas.List.{length-take}
 use Rattle.tier_outside.specs.Disk.{DiskMoment, IsImage, settled, written, StopsIn}
@@ -8,7 +8,7 @@ use Rattle.tier_outside.specs.DiskMoments.{last, grown, Now, Then, Leaves}
 use Rattle.tier_outside.proofs.DiskMoments.{now_weaker}
 use Rattle.gate_journal.specs.declared.journal.Journal.{Journal}
 use Rattle.gate_journal.specs.Journals.{IsClosed, behind_gate}
-use Rattle.gate_journal.specs.Stands.{Standing, StandsAs, HoldsWithOrWithout, gate_alone, longer}
+use Rattle.gate_journal.specs.Stands.{Standing, StandsAs, HoldsWithOrWithout, gate_alone}
 use Rattle.gate_journal.specs.Stands.{recorded}
 use Rattle.gate_journal.specs.Steps.Writing.{AddStops, GateCloses, GateStops, staged, opened}
 use Rattle.gate_journal.proofs.Adds.{with_or_without, stands_added, add_outside, once_opened}

@@ -1,13 +1,13 @@
 -- What reads from a disk tell of a record.
-use Rattle.std.specs.Prelude.{◌≡◌, ◌⊎◌, ◌≤◌, ◌<◌, ◌+◌, ◌-◌, ℕ, List, [], ◌∷◌, length, take, drop}
-use Rattle.std.specs.Prelude.{slice_index, min, Option, Some, None, refl}
-use Rattle.std.proofs.Common.{◌∙◌, sym, subst, ap, arith, inl, inr}
+use Rattle.std.specs.Prelude.{◌≡◌, ◌⊎◌, ◌≤◌, ◌<◌, ◌+◌, ◌-◌, ℕ, List, length, take, drop}
+use Rattle.std.specs.Prelude.{slice_index, Option, Some, None, refl}
+use Rattle.std.proofs.Common.{◌∙◌, sym, ap, arith, inl, inr}
 use Rattle.std.proofs.lemmas.Bool.{cases_lt}
 use Rattle.std.proofs.lemmas.List.{get_or-take, length-take, drop-take, take-take, take_all}
 use Rattle.byteorder.specs.Endian.{big_number}
 use Rattle.tier_outside.specs.Disk.{DiskMoment, Reads}
 use Rattle.tier_outside.specs.DiskMoments.{last, Now}
-use Rattle.gate_journal.specs.Journals.{IsRecord, IsBroken, IsClosed, IsCut, size_at}
+use Rattle.gate_journal.specs.Journals.{IsRecord, IsBroken, IsClosed, size_at}
 use Rattle.gate_journal.specs.Steps.Reading.{IsOpen}
 use Rattle.gate_journal.proofs.Records.{same_number, index_drop, index_take}
 

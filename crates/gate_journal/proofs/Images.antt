@@ -1,11 +1,11 @@
 -- Laws of the images that a stop in one write to a range may leave.
-use Rattle.std.specs.Prelude.{◌≡◌, ◌≤◌, ◌<◌, ◌+◌, ℕ, List, [], ◌∷◌, ◌++◌, length, slice_index, max}
-use Rattle.std.specs.Prelude.{false, nat_le, nat_lt, ◌&&◌, ◌||◌, refl}
-use Rattle.std.proofs.Common.{◌∙◌, sym, subst, ap, arith}
+use Rattle.std.specs.Prelude.{◌≡◌, ◌≤◌, ◌<◌, ◌+◌, ℕ, List, [], ◌∷◌, ◌++◌, length, slice_index}
+use Rattle.std.specs.Prelude.{false, nat_le, nat_lt, ◌&&◌, refl}
+use Rattle.std.proofs.Common.{◌∙◌, subst, arith}
 use Rattle.std.proofs.lemmas.Bool.Decides.{nat_tests}
-use Rattle.tier_outside.specs.Disk.{DiskMoment, IsImage, Writes, settled, touch, reach, is_touched}
+use Rattle.tier_outside.specs.Disk.{DiskMoment, IsImage, Writes, settled, reach, is_touched}
 use Rattle.tier_outside.specs.Disk.{StopsIn}
-use Rattle.tier_outside.proofs.DiskImages.{touched_more, split_touched, settled_only}
+use Rattle.tier_outside.proofs.DiskImages.{touched_more, split_touched}
 
 -- a byte that a wider range does not hold
 narrower : (off count off2 count2 i : ℕ) → off2 ≤ off → off + count ≤ off2 + count2

@@ -1,11 +1,11 @@
 -- Each range of bytes of each image has one meaning, and only one.
-use Rattle.std.specs.Prelude.{◌≡◌, ◌≢◌, ◌⊎◌, ◌≤◌, ◌<◌, ◌+◌, ◌-◌, ℕ, zero, suc, List, [], ◌∷◌}
+use Rattle.std.specs.Prelude.{◌≡◌, ◌⊎◌, ◌≤◌, ◌<◌, ◌+◌, ℕ, zero, suc, List, [], ◌∷◌}
 use Rattle.std.specs.Prelude.{length, take, drop, slice_index, refl}
 use Rattle.std.proofs.Common.{◌∙◌, sym, subst, ap, arith, inl, inr}
 use Rattle.std.proofs.lemmas.Bool.{cases_lt, cases_eq}
 use Rattle.std.proofs.lemmas.List.{length-take, length-drop}
-use Rattle.gate_journal.specs.Journals.{IsRecord, AreRecords, IsClosed, IsCut, IsBroken, Reading}
-use Rattle.gate_journal.specs.Journals.{Spelled, Broken, Spells, Breaks, Means, size_at}
+use Rattle.gate_journal.specs.Journals.{IsRecord, AreRecords, IsClosed, IsBroken, Reading}
+use Rattle.gate_journal.specs.Journals.{Spelled, Broken, Means, size_at}
 
 -- no record stands at a gate: it is closed, or it breaks
 abbrev pub Stops : List ℕ → ℕ → Type 0

@@ -1,15 +1,13 @@
 -- Laws of records by place: they stand where the same bytes stand, and one more goes behind them.
-use Rattle.std.specs.Prelude.{◌≡◌, ◌≢◌, ◌⊎◌, ◌≤◌, ◌<◌, ◌+◌, ◌*◌, ◌-◌, ◌^◌, ℕ, suc, List, [], ◌∷◌}
-use Rattle.std.specs.Prelude.{◌++◌, length, take, drop, slice_index, min, refl}
+use Rattle.std.specs.Prelude.{◌≡◌, ◌≤◌, ◌<◌, ◌+◌, ◌-◌, ◌^◌, ℕ, List, [], ◌∷◌}
+use Rattle.std.specs.Prelude.{◌++◌, length, take, drop, slice_index, refl}
 use Rattle.std.proofs.Common.{◌∙◌, sym, subst, ap, arith, add-one}
-use Rattle.std.proofs.lemmas.Bool.{cases_eq, cases_lt}
-use Rattle.std.proofs.lemmas.Grind.{common_steps}
 use Rattle.std.proofs.lemmas.List.{ext_get_or, get_or-take, get_or-drop, length-take, length-drop}
 use Rattle.std.proofs.lemmas.List.{length-append, get_or_append_left, get_or-append_right}
 use Rattle.std.proofs.lemmas.List.{get_or_at, append_assoc}
 use Rattle.byteorder.specs.Endian.{big_number, big_bytes}
 use Rattle.byteorder.specs.Numbers.{big_number-reads_back, length-bytes_high_first}
-use Rattle.gate_journal.specs.Journals.{IsRecord, AreRecords, IsClosed, Spells, size_at}
+use Rattle.gate_journal.specs.Journals.{IsRecord, AreRecords, IsClosed, Spells}
 use Rattle.gate_journal.specs.Journals.{behind_gate}
 
 -- the bytes of ys from a place up to another are those of xs

@@ -1,8 +1,8 @@
 -- What stands, and what a stop leaves, after the steps of a call.
-use Rattle.std.specs.Prelude.{◌≡◌, ◌+◌, ℕ, List, [], ◌∷◌, ◌++◌, length, Option, Some, None, refl}
-use Rattle.std.proofs.Common.{◌∙◌, sym, subst, ap, inl, inr, arith}
+use Rattle.std.specs.Prelude.{◌≡◌, ◌+◌, ℕ, List, [], ◌∷◌, ◌++◌, length, Option, Some, None}
+use Rattle.std.proofs.Common.{◌∙◌, sym, subst, ap, inl, inr}
 use Rattle.tier_outside.specs.Disk.{DiskMoment, IsImage, Writes, Syncs, settled, written, StopsIn}
-use Rattle.tier_outside.specs.DiskMoments.{last, Now, Then, Goes, Since, grown, Leaves}
+use Rattle.tier_outside.specs.DiskMoments.{last, Now, Then, Goes, grown, Leaves}
 use Rattle.tier_outside.proofs.DiskImages.{settled_only}
 use Rattle.tier_outside.proofs.DiskMoments.{last_push, since_start, since_same, since_call}
 use Rattle.tier_outside.proofs.DiskMoments.{since_weaker, since_trans, now_done, now_both}

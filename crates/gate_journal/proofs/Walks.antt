@@ -1,5 +1,5 @@
 -- What a walk has found.
-use Rattle.std.specs.Prelude.{◌≡◌, ◌≤◌, ◌<◌, ◌+◌, ℕ, List, [], ◌∷◌, ◌++◌, length, take, slice_index}
+use Rattle.std.specs.Prelude.{◌≡◌, ◌≤◌, ◌<◌, ◌+◌, ℕ, List, [], ◌∷◌, ◌++◌, length, take}
 use Rattle.std.specs.Prelude.{min, Option, Some, None, Result, Ok, Err, IsErrAnd, refl}
 use Rattle.std.proofs.Common.{◌∙◌, sym, subst, ap, arith, inl, inr}
 use Rattle.std.proofs.lemmas.Bool.{cases_lt}
@@ -10,7 +10,6 @@ use Rattle.store_face.specs.declared.fault.StoreFault.TheVariants.{NoMemory}
 use Rattle.tier_outside.specs.Causes.{Rose}
 use Rattle.tier_outside.specs.Disk.{DiskMoment, IsImage, RangeStands}
 use Rattle.tier_outside.specs.DiskMoments.{last, Now}
-use Rattle.gate_journal.specs.declared.journal.Journal.{Journal}
 use Rattle.gate_journal.specs.Calls.{Found, WalkEnds}
 use Rattle.gate_journal.specs.Journals.{IsRecord, AreRecords, IsClosed, IsBroken, Means, Spelled}
 use Rattle.gate_journal.specs.Journals.{Broken, Spells}
@@ -43,8 +42,13 @@ pub walk_found : (size end limit at next : ℕ) (payloads : List (List ℕ))
     → Now a (λ d. IsClosed (take limit d.content) next)
     → Found at end a (record { start = at; next = next; end = end }) payloads
 walk_found size end limit at next payloads a all is are low high closed =
-    record { start = refl; end_is = refl; order = low; within = omega arith;
-        spelled = spelled a all are closed }
+    record {
+      start = refl;
+      end_is = refl;
+      order = low;
+      within = omega arith;
+      spelled = spelled a all are closed;
+    }
   where
     spelled : (a : Option (List DiskMoment)) → Now a (λ d. size ≡ length d.content)
         → Now a (λ d. AreRecords (take limit d.content) at payloads next)
@@ -53,9 +57,11 @@ walk_found size end limit at next payloads a all is are low high closed =
     spelled None all are closed = tt
     spelled (Some ds) all are closed =
         let same : take limit (last ds).content ≡ take end (last ds).content =
-            take_limit size end limit (last ds).content all is in
-        record { records = subst (λ xs. AreRecords xs at payloads next) same are;
-            gate = subst (λ xs. IsClosed xs next) same closed }
+        take_limit size end limit (last ds).content all is in
+        record {
+          records = subst (λ xs. AreRecords xs at payloads next) same are;
+          gate = subst (λ xs. IsClosed xs next) same closed;
+        }
 
 -- it broke
 pub walk_broken : (size end limit at next : ℕ) (payloads : List (List ℕ))
@@ -66,16 +72,21 @@ pub walk_broken : (size end limit at next : ℕ) (payloads : List (List ℕ))
 walk_broken size end limit at next payloads None all is are broken = tt
 walk_broken size end limit at next payloads (Some ds) all is are broken =
     let same : take limit (last ds).content ≡ take end (last ds).content =
-        take_limit size end limit (last ds).content all is in
-    record { payloads = payloads; records = subst (λ xs. AreRecords xs at payloads next) same are;
-        broken = subst (λ xs. IsBroken xs next) same broken }
+    take_limit size end limit (last ds).content all is in
+    record {
+      payloads = payloads;
+      records = subst (λ xs. AreRecords xs at payloads next) same are;
+      broken = subst (λ xs. IsBroken xs next) same broken;
+    }
 
 -- what an image of a disk has where its bytes are settled
 pub stands_same : (from to : ℕ) (d : DiskMoment) (image : List ℕ) → RangeStands from to d
     → IsImage d image → SameBytes from to d.stable image
 stands_same from to d image stands is =
-    record { same = λ i above below. is.kept i (omega (arith, stands.within))
-    (stands.untouched i above below) }
+    record {
+      same = λ i above below. is.kept i (omega (arith, stands.within))
+          (stands.untouched i above below);
+    }
 
 pub stands_read : (at end next : ℕ) (payloads : List (List ℕ)) (d : DiskMoment)
     → IsImage d d.content → Spells at end d.content payloads next → RangeStands at (next + 1) d
@@ -95,13 +106,13 @@ pub walk_stands : (end at next : ℕ) (payloads : List (List ℕ)) (a b : Option
     → b ≡ a → Now a (λ d. IsImage d d.content)
     → Found at end a (record { start = at; next = next; end = end }) payloads
     → Now b (λ d. RangeStands at (next + 1) d
-        → StandsAs (record { start = at; next = next; end = end }) payloads d)
+    → StandsAs (record { start = at; next = next; end = end }) payloads d)
 walk_stands end at next payloads None b same image found =
     subst (λ ms. Now ms (λ d. RangeStands at (next + 1) d
     → StandsAs (record { start = at; next = next; end = end }) payloads d)) (sym same) tt
 walk_stands end at next payloads (Some ds) b same image found =
     subst (λ ms. Now ms (λ d. RangeStands at (next + 1) d
-        → StandsAs (record { start = at; next = next; end = end }) payloads d)) (sym same)
+    → StandsAs (record { start = at; next = next; end = end }) payloads d)) (sym same)
     (λ stands. stands_read at end next payloads (last ds) image found.spelled stands)
 
 -- a count that rose later rose
@@ -119,7 +130,7 @@ pub walk_refused : (size end limit at next : ℕ) (payloads : List (List ℕ))
 walk_refused size end limit at next payloads a failed1 failed2 Disk all is are later read =
     later read
 walk_refused size end limit at next payloads a failed1 failed2
-(BadImage gate) all is are later read =
+    (BadImage gate) all is are later read =
     subst (λ n. Now a (λ d. Means at end d.content (Broken n))) (sym read.0)
     (walk_broken size end limit at next payloads a all is are read.1)
 walk_refused size end limit at next payloads a failed1 failed2

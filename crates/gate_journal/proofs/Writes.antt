@@ -1,7 +1,7 @@
 -- The bytes of a disk after writes, by place.
-use Rattle.std.specs.Prelude.{◌≡◌, ◌⊎◌, ◌≤◌, ◌<◌, ◌+◌, ◌-◌, ℕ, List, [], ◌∷◌, ◌++◌, length, take}
+use Rattle.std.specs.Prelude.{◌≡◌, ◌≤◌, ◌<◌, ◌+◌, ◌-◌, ℕ, List, [], ◌∷◌, ◌++◌, length, take}
 use Rattle.std.specs.Prelude.{drop, slice_index, max, replicate, refl}
-use Rattle.std.proofs.Common.{◌∙◌, sym, subst, ap, arith, inl, inr, add-one}
+use Rattle.std.proofs.Common.{◌∙◌, sym, ap, arith, inl, inr}
 use Rattle.std.proofs.lemmas.Bool.{cases_lt}
 use Rattle.std.proofs.lemmas.Bool.Decides.{nat_tests}
 use Rattle.std.proofs.lemmas.List.{ext_get_or, get_or-take, get_or-drop, length-take, length-append}
@@ -9,10 +9,8 @@ use Rattle.std.proofs.lemmas.List.{length-replicate, get_or_append_left, get_or-
 use Rattle.std.proofs.lemmas.List.{get_or_past, get_or-replicate}
 use Rattle.tier_outside.specs.Disk.{written, filled, reach}
 use Rattle.tier_outside.proofs.DiskImages.{length_written, written_none}
-use Rattle.gate_journal.specs.Journals.{behind_gate}
-use Rattle.gate_journal.specs.Stands.{recorded}
 use Rattle.gate_journal.specs.Steps.Writing.{staged, opened}
-use Rattle.gate_journal.proofs.Records.{ThereAt, index_cons, length_behind}
+use Rattle.gate_journal.proofs.Records.{ThereAt, index_cons}
 
 length_filled : (size : ℕ) (old : List ℕ) → length (filled size old) ≡ max (length old) size
 length_filled size old =
@@ -44,6 +42,14 @@ reach_some : (off : ℕ) (b : ℕ) (bytes : List ℕ)
     → reach off (length (b ∷ bytes)) ≡ off + length (b ∷ bytes)
 reach_some off b bytes = grind (arith, nat_tests)
 
+-- how long a body is that reaches to the end of what is written
+whole_size : (off b : ℕ) (bytes old : List ℕ)
+    → length (filled (reach off (length (b ∷ bytes))) old)
+    ≡ max (length old) (off + length (b ∷ bytes))
+whole_size off b bytes old =
+    length_filled (reach off (length (b ∷ bytes))) old
+    ∙ ap (max (length old)) (reach_some off b bytes)
+
 -- what was written stands at its place
 pub written_in : (off : ℕ) (bytes old : List ℕ) (k : ℕ) → k < length bytes
     → slice_index (written off bytes old) (off + k) ≡ slice_index bytes k
@@ -51,9 +57,7 @@ written_in off [] old k below = absurd (omega arith)
 written_in off (b ∷ bytes) old k below =
     let all : List ℕ = b ∷ bytes in
     let whole : List ℕ = filled (reach off (length all)) old in
-    let size : length whole ≡ max (length old) (off + length all) =
-    length_filled (reach off (length all)) old
-    ∙ ap (max (length old)) (reach_some off b bytes) in
+    let size : length whole ≡ max (length old) (off + length all) = whole_size off b bytes old in
     let front : length (take off whole) ≡ off = omega (arith, length-take off whole) in
     let minus : off + k - off ≡ k = omega arith in
     get_or_append_left (take off whole ++ all) (drop (off + length all) whole) 0 (off + k)
@@ -68,9 +72,7 @@ written_front off [] old i low = ap (λ xs. slice_index xs i) (written_none off 
 written_front off (b ∷ bytes) old i low =
     let all : List ℕ = b ∷ bytes in
     let whole : List ℕ = filled (reach off (length all)) old in
-    let size : length whole ≡ max (length old) (off + length all) =
-    length_filled (reach off (length all)) old
-    ∙ ap (max (length old)) (reach_some off b bytes) in
+    let size : length whole ≡ max (length old) (off + length all) = whole_size off b bytes old in
     let front : length (take off whole) ≡ off = omega (arith, length-take off whole) in
     get_or_append_left (take off whole ++ all) (drop (off + length all) whole) 0 i
     (omega (arith, length-append (take off whole) all))
@@ -84,9 +86,7 @@ written_behind off [] old i high = ap (λ xs. slice_index xs i) (written_none of
 written_behind off (b ∷ bytes) old i high =
     let all : List ℕ = b ∷ bytes in
     let whole : List ℕ = filled (reach off (length all)) old in
-    let size : length whole ≡ max (length old) (off + length all) =
-    length_filled (reach off (length all)) old
-    ∙ ap (max (length old)) (reach_some off b bytes) in
+    let size : length whole ≡ max (length old) (off + length all) = whole_size off b bytes old in
     let front : length (take off whole ++ all) ≡ off + length all =
     omega (arith, length-take off whole, length-append (take off whole) all) in
     let plus : off + length all + (i - (off + length all)) ≡ i = omega arith in

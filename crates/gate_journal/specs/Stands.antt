@@ -1,6 +1,5 @@
 -- A journal on a disk that may stop: what stands of it, and what each image of a moment may hold.
-use Rattle.std.specs.Prelude.{◌≡◌, ◌⊎◌, ℕ, ◌+◌, ◌<◌, ◌≤◌, ◌^◌, List, [], ◌∷◌, ◌++◌, length}
-use Rattle.std.specs.Prelude.{slice_index, Option, false}
+use Rattle.std.specs.Prelude.{◌⊎◌, ℕ, ◌+◌, ◌<◌, ◌≤◌, ◌^◌, List, [], ◌∷◌, ◌++◌, length}
 use Rattle.tier_outside.specs.Disk.{DiskMoment, RangeStands, written}
 use Rattle.gate_journal.specs.Journals.{Spells, behind_gate}
 use Rattle.gate_journal.specs.declared.journal.Journal.{Journal}

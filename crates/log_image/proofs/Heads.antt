@@ -50,19 +50,36 @@ long_enough n e = grind (arith, nat_tests)
 enough_long : (n : ℕ) → 22 ≤ n → nat_lt n 22 ≡ false
 enough_long n e = grind (arith, nat_tests)
 
+-- the tests of a head from one on: the size of its record, the magic, the pool, the last one
+abbrev last_tests : List ℕ → Option ℕ
+last_tests image = cond (nat_lt (length image) 22) (Some 0) None
+
+abbrev pool_tests : Pool → List ℕ → Option ℕ
+pool_tests role image =
+    cond (not (bytes_eq (take 1 (drop 13 image)) (role_byte role ∷ []))) (Some 13)
+    (last_tests image)
+
+abbrev magic_tests : Pool → List ℕ → Option ℕ
+magic_tests role image =
+    cond (not (bytes_eq (take 8 (drop 5 image)) (codes "RTLOG001"))) (Some 5)
+    (pool_tests role image)
+
+abbrev size_tests : Pool → List ℕ → Option ℕ
+size_tests role image =
+    cond (not (bytes_eq (take 4 (drop 1 image)) (big_bytes 4 17))) (Some 1) (magic_tests role image)
+
 pub head_passes : (role : Pool) (image : List ℕ) → head_fault role image ≡ None → Passes role image
 head_passes role image none =
-    let last : Option ℕ = cond (nat_lt (length image) 22) (Some 0) None in
-    let pool : Option ℕ =
-    cond (not (bytes_eq (take 1 (drop 13 image)) (role_byte role ∷ []))) (Some 13) last in
-    let magic : Option ℕ =
-    cond (not (bytes_eq (take 8 (drop 5 image)) (codes "RTLOG001"))) (Some 5) pool in
-    let size : Option ℕ =
-    cond (not (bytes_eq (take 4 (drop 1 image)) (big_bytes 4 17))) (Some 1) magic in
-    let a = none_then (not (slice_index image 0 == 1)) 0 size none in
-    let b = none_then (not (bytes_eq (take 4 (drop 1 image)) (big_bytes 4 17))) 1 magic a.1 in
-    let c = none_then (not (bytes_eq (take 8 (drop 5 image)) (codes "RTLOG001"))) 5 pool b.1 in
-    let d = none_then (not (bytes_eq (take 1 (drop 13 image)) (role_byte role ∷ []))) 13 last c.1 in
+    let a = none_then (not (slice_index image 0 == 1)) 0 (size_tests role image) none in
+    let b =
+    none_then (not (bytes_eq (take 4 (drop 1 image)) (big_bytes 4 17))) 1
+    (magic_tests role image) a.1 in
+    let c =
+    none_then (not (bytes_eq (take 8 (drop 5 image)) (codes "RTLOG001"))) 5
+    (pool_tests role image) b.1 in
+    let d =
+    none_then (not (bytes_eq (take 1 (drop 13 image)) (role_byte role ∷ []))) 13
+    (last_tests image) c.1 in
     let e = none_then (nat_lt (length image) 22) 0 None d.1 in
     record {
       opened = first_open (slice_index image 0) a.0;
@@ -74,19 +91,13 @@ head_passes role image none =
 
 pub passes_head : (role : Pool) (image : List ℕ) → Passes role image → head_fault role image ≡ None
 passes_head role image is =
-    let last : Option ℕ = cond (nat_lt (length image) 22) (Some 0) None in
-    let pool : Option ℕ =
-    cond (not (bytes_eq (take 1 (drop 13 image)) (role_byte role ∷ []))) (Some 13) last in
-    let magic : Option ℕ =
-    cond (not (bytes_eq (take 8 (drop 5 image)) (codes "RTLOG001"))) (Some 5) pool in
-    let size : Option ℕ =
-    cond (not (bytes_eq (take 4 (drop 1 image)) (big_bytes 4 17))) (Some 1) magic in
-    none_from (not (slice_index image 0 == 1)) 0 size (open_first (slice_index image 0) is.opened)
-    (none_from (not (bytes_eq (take 4 (drop 1 image)) (big_bytes 4 17))) 1 magic
+    none_from (not (slice_index image 0 == 1)) 0 (size_tests role image)
+    (open_first (slice_index image 0) is.opened)
+    (none_from (not (bytes_eq (take 4 (drop 1 image)) (big_bytes 4 17))) 1 (magic_tests role image)
     (bytes_same (take 4 (drop 1 image)) (big_bytes 4 17) is.size)
-    (none_from (not (bytes_eq (take 8 (drop 5 image)) (codes "RTLOG001"))) 5 pool
+    (none_from (not (bytes_eq (take 8 (drop 5 image)) (codes "RTLOG001"))) 5 (pool_tests role image)
     (bytes_same (take 8 (drop 5 image)) (codes "RTLOG001") is.magic)
-    (none_from (not (bytes_eq (take 1 (drop 13 image)) (role_byte role ∷ []))) 13 last
+    (none_from (not (bytes_eq (take 1 (drop 13 image)) (role_byte role ∷ []))) 13 (last_tests image)
     (bytes_same (take 1 (drop 13 image)) (role_byte role ∷ []) is.pool)
     (none_from (nat_lt (length image) 22) 0 None (enough_long (length image) is.long) refl))))
 

@@ -132,7 +132,7 @@ pub replay_refused : (payloads items rest : List (List ℕ)) (payload seen : Lis
     → items ≡ payload ∷ rest → seen ≡ payload → at ≡ told (gate + 5)
     → ReplayEnds seen at map map2 (Err fault) → RebuildEnds payloads (Err fault)
 replay_refused payloads items rest payload seen map map2 gate at
-(BadImage place) going items_are seen_is at_is ends =
+    (BadImage place) going items_are seen_is at_is ends =
     inr (going_none payloads rest payload map gate place
     (subst (λ xs. Going payloads xs map gate) items_are going)
     (subst (λ (xs : List ℕ). (txn : List Change) → ¬ SpellsTxn xs txn) seen_is ends.1)
@@ -153,7 +153,7 @@ pub replay_done : (payloads items rest : List (List ℕ)) (payload seen seen2 : 
     → seen ≡ payload → seen2 ≡ payload → ReplayEnds seen at map map2 (Ok tt)
     → gate2 ≡ told (gate + 5 + length seen2) → Going payloads rest map2 gate2
 replay_done payloads items rest payload seen seen2 map map2 gate at gate2 going items_are seen_is
-seen2_is ends gate_is =
+    seen2_is ends gate_is =
     going_on payloads rest payload ends.0 map map2 gate gate2
     (subst (λ xs. Going payloads xs map gate) items_are going)
     (subst (λ xs. SpellsTxn xs ends.0) seen_is ends.1) ends.2

@@ -1,6 +1,5 @@
 -- What a record has behind its gate.
 use Rattle.std.specs.Prelude.{◌≡◌, ℕ, ◌-◌, List, length, take, drop}
-use Rattle.tier_outside.specs.Disk.{written}
 use Rattle.gate_journal.specs.Journals.{behind_gate}
 
 -- the payload of what is written behind a gate

@@ -1,5 +1,5 @@
 -- How a record is added and a gate closed, and what a stop leaves meanwhile.
-use Rattle.std.specs.Prelude.{◌≡◌, ◌⊎◌, ℕ, ◌+◌, ◌-◌, List, [], ◌∷◌, length}
+use Rattle.std.specs.Prelude.{◌≡◌, ◌⊎◌, ℕ, ◌+◌, List, [], ◌∷◌, length}
 use Rattle.tier_outside.specs.Disk.{DiskMoment, IsImage, settled, written, StopsIn}
 use Rattle.gate_journal.specs.Journals.{IsClosed}
 

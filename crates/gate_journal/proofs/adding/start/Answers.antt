@@ -1,4 +1,4 @@
-use Rattle.std.proofs.Common.{◌∙◌, ◌≡◌, ◌+◌, ◌-◌, length, List, [], ◌∷◌, ℕ, arith}
+use Rattle.std.proofs.Common.{◌∙◌, ◌+◌, ◌-◌, length, [], ◌∷◌, arith}
 use Rattle.gate_journal.proofs.Calls.{close_closed, close_open, close_outside, start_closed}
 use Rattle.gate_journal.proofs.Calls.{start_open, start_outside, start_written, start_stands}
 use Rattle.gate_journal.proofs.Calls.{some_stands}

@@ -1,5 +1,4 @@
 use Rattle.std.proofs.Common.{◌≡◌, ◌+◌, arith, ap, sym, subst, length, take, List, ℕ, Err, ◌∙◌}
-use Rattle.store_face.specs.declared.fault.StoreFault.{StoreFault}
 use Rattle.tier_outside.specs.Causes.{Rose}
 use Rattle.tier_outside.specs.DiskMoments.{Now}
 use Rattle.gate_journal.specs.Calls.{WalkEnds}
