@@ -3,7 +3,7 @@ use Rattle.std.specs.Prelude.{◌≡◌, ◌⊎◌, ℕ, ◌<◌, ◌≤◌, Lis
 use Rattle.std.specs.FinMap as fin
 use Rattle.obj_model.specs.declared.change.Change.{Change}
 use Rattle.obj_model.specs.declared.change.Pool.{Pool}
-use Rattle.tier_outside.specs.Disk.{DiskMoment, settled}
+use Rattle.tier_outside.specs.Disk.{DiskMoment}
 use Rattle.gate_journal.specs.Stands.{StandsAs}
 use Rattle.gate_journal.specs.declared.journal.Journal.{Journal}
 use Rattle.store_face.specs.Limits.{store_limit}

@@ -7,16 +7,11 @@ use Rattle.obj_model.specs.Tables.{Table}
 use Rattle.obj_model.specs.declared.sub_op.SubOp.{SubOp}
 use Rattle.obj_model.specs.declared.sub_op.SubOp.TheVariants as op
 use Rattle.obj_model.specs.declared.state.Obj.{Obj}
-use Rattle.obj_model.specs.declared.state.NameState.{NameState}
 use Rattle.obj_model.specs.declared.reply.Kept.{Kept}
 use Rattle.obj_model.specs.declared.reply.Why.{Why}
 use Rattle.obj_ops.specs.declared.run.Ran.{Ran}
 use Rattle.obj_ops.specs.declared.run.Ran.TheVariants.{Accepted, Refused}
 use Rattle.obj_ops.specs.declared.run.Stop.{Stop}
-use Rattle.obj_ops.specs.declared.request.Acted.{Acted}
-use Rattle.obj_ops.specs.declared.request.Acted.TheVariants as acted
-use Rattle.obj_ops.specs.declared.request.Answered.{Answered}
-use Rattle.obj_ops.specs.declared.request.Answered.TheVariants as answered
 use Rattle.obj_ops.specs.Effects.{Change}
 
 -- a sub-operation of a write vector: it does not read, and its numbers are at most 2^62
@@ -77,10 +72,3 @@ put_at k seen (Some at) = slice_set seen at k
 
 abbrev pub settled : Kept → List Kept → List Kept
 settled k seen = put_at k seen (place_from k.client 0 seen)
-
--- a request on a state where it lies: it left this state, or left it as it was
-abbrev pub ActsOn : Acted → NameState → Answered → NameState → Type 0
-ActsOn a old (answered.Fresh reply) new = a ≡ acted.Fresh new reply
-ActsOn a old (answered.Again reply) new = (a ≡ acted.Again reply) × (new ≡ old)
-ActsOn a old (answered.Stale kept) new = (a ≡ acted.Stale kept) × (new ≡ old)
-ActsOn a old (answered.Worn limit) new = (a ≡ acted.Worn limit) × (new ≡ old)
