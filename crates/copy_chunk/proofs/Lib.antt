@@ -10,3 +10,4 @@ pub mod Grouping
 pub mod Cutting
 pub mod TableCuts
 pub mod Pieces
+pub mod Fits

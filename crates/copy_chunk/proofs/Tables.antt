@@ -31,14 +31,21 @@ less Less p = refl
 less Equal p = absurd p
 less Greater p = absurd p
 
-all_above : (k : List ℕ) (es : List Entry) → T (below_all name_cmp k es) → AllByRecursion (λ y. name_cmp k y ≡ Less) (map (λ e. e.0) es)
+all_above : (k : List ℕ) (es : List Entry) → T (below_all name_cmp k es)
+    → AllByRecursion (λ y. name_cmp k y ≡ Less) (map (λ e. e.0) es)
 all_above k [] h = tt
-all_above k (e ∷ es) h = (less (name_cmp k e.0) (first (is_lt (name_cmp k e.0)) (below_all name_cmp k es) h), all_above k es (second (is_lt (name_cmp k e.0)) (below_all name_cmp k es) h))
+all_above k (e ∷ es) h = (
+  less (name_cmp k e.0) (first (is_lt (name_cmp k e.0)) (below_all name_cmp k es) h),
+  all_above k es (second (is_lt (name_cmp k e.0)) (below_all name_cmp k es) h),
+)
 
 rising_from_test : (es : List Entry) → T (is_sorted name_cmp es) → Rising es
 unfolding IsStrictlySortedBy
 rising_from_test [] h = tt
-rising_from_test (e ∷ es) h = (all_above e.0 es (first (below_all name_cmp e.0 es) (is_sorted name_cmp es) h), rising_from_test es (second (below_all name_cmp e.0 es) (is_sorted name_cmp es) h))
+rising_from_test (e ∷ es) h = (
+  all_above e.0 es (first (below_all name_cmp e.0 es) (is_sorted name_cmp es) h),
+  rising_from_test es (second (below_all name_cmp e.0 es) (is_sorted name_cmp es) h),
+)
 
 -- the keys of a table rise
 pub entries_rise : (t : Table) → Rising (fin.entries t)
@@ -46,9 +53,13 @@ entries_rise t = rising_from_test (fin.entries t) (entries_sorted t)
 
 -- a table is what its entries make
 pub made_of_entries : (t : Table) → fin.from_entries (fin.entries t) ≡ t
-made_of_entries t = same_entries_map (fin.from_entries (fin.entries t)) t (kept_entries (fin.entries t) (entries_rise t))
+made_of_entries t =
+    same_entries_map (fin.from_entries (fin.entries t)) t
+    (kept_entries (fin.entries t) (entries_rise t))
 
-front_above : (k : List ℕ) (xs ys : List Entry) → AllByRecursion (λ y. name_cmp k y ≡ Less) (map (λ e. e.0) (xs ++ ys)) → AllByRecursion (λ y. name_cmp k y ≡ Less) (map (λ e. e.0) xs)
+front_above : (k : List ℕ) (xs ys : List Entry)
+    → AllByRecursion (λ y. name_cmp k y ≡ Less) (map (λ e. e.0) (xs ++ ys))
+    → AllByRecursion (λ y. name_cmp k y ≡ Less) (map (λ e. e.0) xs)
 front_above k [] ys h = tt
 front_above k (x ∷ xs) ys h = (h.0, front_above k xs ys h.1)
 

@@ -1,5 +1,7 @@
 -- The chunks of a state: how it is cut, and where each chunk stands.
-use Rattle.std.specs.Prelude.{ℕ, zero, suc, ◌+◌, ◌-◌, ◌/◌, Bool, true, false, List, [], ◌∷◌, ◌++◌, map, length, take, drop, Option, Some, None, is_some, nat_le, ◌==◌, bytes_eq, if◌then◌else◌}
+use Rattle.std.specs.Prelude.{ℕ, zero, suc, ◌+◌, ◌-◌, ◌/◌, Bool, true, false, List, [], ◌∷◌, ◌++◌}
+use Rattle.std.specs.Prelude.{map, length, take, drop, Option, Some, None, is_some, nat_le, ◌==◌}
+use Rattle.std.specs.Prelude.{bytes_eq, if◌then◌else◌}
 use Rattle.std.specs.List.{find}
 use Rattle.std.specs.FinMap as fin
 use Rattle.obj_model.specs.declared.out.Pair.{Pair}
@@ -35,7 +37,8 @@ pieces_in size = (size + 65535) / 65536
 -- bytes from an offset on in so many pieces of 65,536 bytes, the last shorter
 unfoldable pub body_pieces : ℕ → ℕ → List ℕ → List Piece
 body_pieces zero off bytes = []
-body_pieces (suc n) off bytes = (Body off, part.Body (take 65536 bytes)) ∷ body_pieces n (off + 65536) (drop 65536 bytes)
+body_pieces (suc n) off bytes =
+    (Body off, part.Body (take 65536 bytes)) ∷ body_pieces n (off + 65536) (drop 65536 bytes)
 
 -- ---- the tables
 
@@ -66,9 +69,11 @@ last_key key [] = key
 last_key key (e ∷ es) = last_key (Some e.0) es
 
 -- groups at their places, each behind the last key of the one before
-unfoldable pub table_pieces : (Option (List ℕ) → Cursor) → Option (List ℕ) → List (List Entry) → List Piece
+unfoldable pub table_pieces : (Option (List ℕ) → Cursor) → Option (List ℕ) → List (List Entry)
+    → List Piece
 table_pieces place key [] = []
-table_pieces place key (g ∷ gs) = (place key, part.Pairs (map pair_of g)) ∷ table_pieces place (last_key key g) gs
+table_pieces place key (g ∷ gs) =
+    (place key, part.Pairs (map pair_of g)) ∷ table_pieces place (last_key key g) gs
 
 -- ---- the whole
 
@@ -77,11 +82,14 @@ unfoldable pub object_pieces : Option Obj → List Piece
 object_pieces None = []
 object_pieces (Some o) =
     body_pieces (pieces_in (length o.body)) 0 o.body
-    ++ (table_pieces Attrs None (table_groups (fin.entries o.attrs)) ++ table_pieces Omap None (table_groups (fin.entries o.omap)))
+    ++ (table_pieces Attrs None (table_groups (fin.entries o.attrs))
+    ++ table_pieces Omap None (table_groups (fin.entries o.omap)))
 
 -- the pieces of a state: the head, the object, the kept requests
 unfoldable pub pieces_of : NameState → List Piece
-pieces_of s = (Head, part.Head s.ver s.seq (is_some s.obj)) ∷ (object_pieces s.obj ++ (Seen, part.Seen s.seen) ∷ [])
+pieces_of s =
+    (Head, part.Head s.ver s.seq (is_some s.obj))
+    ∷ (object_pieces s.obj ++ (Seen, part.Seen s.seen) ∷ [])
 
 -- the place of the first piece, or of what stands behind them
 abbrev pub first_place : Option Cursor → List Piece → Option Cursor

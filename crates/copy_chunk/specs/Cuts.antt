@@ -1,5 +1,7 @@
 -- The chunk at a place, kind by kind: what private steps of the cutting give.
-use Rattle.std.specs.Prelude.{ℕ, ◌+◌, ◌-◌, ◌%◌, Bool, false, not, ◌||◌, ◌==◌, nat_le, nat_lt, bytes_eq, is_some, List, [], ◌∷◌, map, length, take, drop, Option, Some, None, if◌then◌else◌}
+use Rattle.std.specs.Prelude.{ℕ, ◌+◌, ◌-◌, ◌%◌, Bool, false, not, ◌||◌, ◌==◌, nat_le, nat_lt}
+use Rattle.std.specs.Prelude.{bytes_eq, is_some, List, [], ◌∷◌, map, length, take, drop, Option}
+use Rattle.std.specs.Prelude.{Some, None, if◌then◌else◌}
 use Rattle.std.specs.FinMap as fin
 use Rattle.obj_model.specs.Tables.{Table, entries_above}
 use Rattle.obj_model.specs.declared.state.Obj.{Obj}
@@ -20,7 +22,8 @@ room_left room e = if nat_le (weight e) room then room - weight e else 65536 - w
 -- the room that is left behind the pair with a key
 abbrev pub room_behind : ℕ → List Entry → List ℕ → Option ℕ
 room_behind room [] key = None
-room_behind room (e ∷ es) key = if bytes_eq e.0 key then Some (room_left room e) else room_behind (room_left room e) es key
+room_behind room (e ∷ es) key =
+    if bytes_eq e.0 key then Some (room_left room e) else room_behind (room_left room e) es key
 
 -- the first group, and its last key where others follow
 abbrev pub group_of : List (List Entry) → Group
@@ -47,12 +50,19 @@ begins_behind (Some room) es = begins room es
 abbrev pub group_at : Table → Option (List ℕ) → Option Group
 group_at t None = first_group (entries_above None t)
 group_at t (Some key) =
-    if begins_behind (room_behind 65536 (fin.entries t) key) (entries_above (Some key) t) then first_group (entries_above (Some key) t) else None
+    if begins_behind (room_behind 65536 (fin.entries t) key) (entries_above (Some key) t)
+    then first_group (entries_above (Some key) t) else None
 
 -- a group as a chunk: the place of the next group, or of what stands behind the table
-abbrev pub table_chunk : (Option (List ℕ) → Cursor) → Cursor → Option (List ℕ) → Option Group → Option Chunk
+abbrev pub table_chunk : (Option (List ℕ) → Cursor) → Cursor → Option (List ℕ) → Option Group
+    → Option Chunk
 table_chunk place end key None = None
-table_chunk place end key (Some g) = Some (record { at = place key; part = part.Pairs g.pairs; next = Some (elim g.last [ None ↦ end | Some last ↦ place (Some last) ]) })
+table_chunk place end key (Some g) =
+    Some (record {
+      at = place key;
+      part = part.Pairs g.pairs;
+      next = Some (elim g.last [ None ↦ end | Some last ↦ place (Some last) ]);
+    })
 
 -- ---- the head and the body
 
@@ -70,7 +80,12 @@ behind_head None = Seen
 behind_head (Some o) = if length o.body == 0 then behind_body o else Body 0
 
 abbrev pub head_chunk : NameState → Chunk
-head_chunk s = record { at = Head; part = part.Head s.ver s.seq (is_some s.obj); next = Some (behind_head s.obj) }
+head_chunk s =
+    record {
+      at = Head;
+      part = part.Head s.ver s.seq (is_some s.obj);
+      next = Some (behind_head s.obj);
+    }
 
 -- the piece of a body at an offset
 abbrev pub body_chunk : Obj → ℕ → Option Chunk
@@ -79,7 +94,8 @@ body_chunk o off =
     else Some (record {
       at = Body off;
       part = part.Body (take 65536 (drop off o.body));
-      next = Some (if nat_lt 65536 (length o.body - off) then Body (off + 65536) else behind_body o);
+      next = Some (if nat_lt 65536 (length o.body - off) then Body (off + 65536)
+          else behind_body o);
     })
 
 -- ---- the whole
@@ -88,6 +104,12 @@ body_chunk o off =
 abbrev pub cut : NameState → Cursor → Option Chunk
 cut s Head = Some (head_chunk s)
 cut s (Body off) = elim s.obj [ None ↦ None | Some o ↦ body_chunk o off ]
-cut s (Attrs key) = elim s.obj [ None ↦ None | Some o ↦ table_chunk Attrs (behind_attrs o) key (group_at o.attrs key) ]
-cut s (Omap key) = elim s.obj [ None ↦ None | Some o ↦ table_chunk Omap Seen key (group_at o.omap key) ]
+cut s (Attrs key) =
+    elim s.obj [
+      | None ↦ None
+      | Some o ↦ table_chunk Attrs (behind_attrs o) key
+          (group_at o.attrs key)
+    ]
+cut s (Omap key) =
+    elim s.obj [ None ↦ None | Some o ↦ table_chunk Omap Seen key (group_at o.omap key) ]
 cut s Seen = Some (record { at = Seen; part = part.Seen s.seen; next = None })

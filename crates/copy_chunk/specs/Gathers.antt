@@ -1,5 +1,6 @@
 -- What gathered chunks make, which one is wanted behind them, and what a gather does with a chunk.
-use Rattle.std.specs.Prelude.{◌≡◌, ◌≢◌, ◌+◌, ◌^◌, ℕ, Bool, true, false, ◌&&◌, nat_lt, nat_le, List, [], ◌∷◌, ◌++◌, map, length, Option, Some, None, if◌then◌else◌}
+use Rattle.std.specs.Prelude.{◌≡◌, ◌≢◌, ◌+◌, ◌^◌, ℕ, Bool, true, false, ◌&&◌, nat_lt, nat_le, List}
+use Rattle.std.specs.Prelude.{[], ◌∷◌, ◌++◌, map, length, Option, Some, None, if◌then◌else◌}
 use Rattle.std.specs.List.{AllByRecursion}
 use Rattle.std.specs.Option.{option_map}
 use Rattle.std.specs.Ordering.{is_lt}
@@ -40,10 +41,13 @@ with_object s f = record s { obj = option_map f s.obj }
 
 -- a state with one more part; a part that is none of its place adds nothing
 abbrev pub with_part : NameState → Cursor → Part → NameState
-with_part s Head (part.Head ver seq present) = record { ver = ver; seq = seq; obj = if present then Some bare_object else None; seen = [] }
+with_part s Head (part.Head ver seq present) =
+    record { ver = ver; seq = seq; obj = if present then Some bare_object else None; seen = [] }
 with_part s (Body off) (part.Body bytes) = with_object s (λ o. record o { body = o.body ++ bytes })
-with_part s (Attrs key) (part.Pairs ps) = with_object s (λ o. record o { attrs = fin.from_entries (entries_with o.attrs ps) })
-with_part s (Omap key) (part.Pairs ps) = with_object s (λ o. record o { omap = fin.from_entries (entries_with o.omap ps) })
+with_part s (Attrs key) (part.Pairs ps) =
+    with_object s (λ o. record o { attrs = fin.from_entries (entries_with o.attrs ps) })
+with_part s (Omap key) (part.Pairs ps) =
+    with_object s (λ o. record o { omap = fin.from_entries (entries_with o.omap ps) })
 with_part s Seen (part.Seen ks) = record s { seen = ks }
 with_part s at other = s
 
@@ -97,7 +101,8 @@ AreOf s cs = AllByRecursion (λ (c : Chunk). chunk_at (chunks_of s) c.at ≡ Som
 
 -- ---- which chunks a gather takes
 
--- what may follow a place: nothing behind the kept requests, anything but the head behind the others
+-- what may follow a place: nothing behind the kept requests, anything but the head behind the
+-- others
 abbrev pub leads : Cursor → Option Cursor → Bool
 leads Seen None = true
 leads Seen (Some next) = false
@@ -113,11 +118,13 @@ goes_behind (Some last) key = is_lt (name_cmp last key)
 -- pairs whose keys go on rising behind a key, with values of at most 4,096 bytes
 abbrev pub pairs_fit : Option (List ℕ) → List Pair → Bool
 pairs_fit last [] = true
-pairs_fit last (p ∷ ps) = goes_behind last p.key && nat_le (length p.value) 4096 && pairs_fit (Some p.key) ps
+pairs_fit last (p ∷ ps) =
+    goes_behind last p.key && nat_le (length p.value) 4096 && pairs_fit (Some p.key) ps
 
 -- pairs, at least one, which a table of at most so many entries can take
 abbrev pub table_fits : ℕ → List Entry → List Pair → Bool
-table_fits most es ps = nat_lt 0 (length ps) && nat_le (length es + length ps) most && pairs_fit (last_key None es) ps
+table_fits most es ps =
+    nat_lt 0 (length ps) && nat_le (length es + length ps) most && pairs_fit (last_key None es) ps
 
 -- bytes, at least one, which a body of at most 1,048,576 bytes can take
 abbrev pub body_fits : List ℕ → List ℕ → Bool
@@ -142,12 +149,15 @@ abbrev pub object_fits : Option Obj → (Obj → Bool) → Bool
 object_fits None test = false
 object_fits (Some o) test = test o
 
--- whether a state stays within its limits with one more part; a part of another kind than its place does not fit
+-- whether a state stays within its limits with one more part; a part of another kind than its place
+-- does not fit
 abbrev pub part_fits : NameState → Cursor → Part → Bool
 part_fits s Head (part.Head ver seq present) = nat_le ver seq && nat_le seq (2 ^ 62)
 part_fits s (Body off) (part.Body bytes) = object_fits s.obj (λ o. body_fits o.body bytes)
-part_fits s (Attrs key) (part.Pairs ps) = object_fits s.obj (λ o. table_fits 64 (fin.entries o.attrs) ps)
-part_fits s (Omap key) (part.Pairs ps) = object_fits s.obj (λ o. table_fits 1024 (fin.entries o.omap) ps)
+part_fits s (Attrs key) (part.Pairs ps) =
+    object_fits s.obj (λ o. table_fits 64 (fin.entries o.attrs) ps)
+part_fits s (Omap key) (part.Pairs ps) =
+    object_fits s.obj (λ o. table_fits 1024 (fin.entries o.omap) ps)
 part_fits s Seen (part.Seen ks) = kepts_fit 0 ks
 part_fits s at other = false
 

@@ -1,5 +1,6 @@
 -- What private steps of a gather do.
-use Rattle.std.specs.Prelude.{◌≡◌, ℕ, Bool, true, false, List, Option, ◌++◌, map, if◌then◌else◌, Some, None}
+use Rattle.std.specs.Prelude.{◌≡◌, ℕ, Bool, true, false, List, Option, ◌++◌, map, if◌then◌else◌}
+use Rattle.std.specs.Prelude.{Some, None}
 use Rattle.std.specs.List.Sorted.{IsStrictlySortedBy}
 use Rattle.std.specs.FinMap as fin
 use Rattle.obj_model.specs.Names.{name_cmp}
@@ -11,14 +12,19 @@ use Rattle.copy_chunk.specs.declared.chunk.Cursor.{Cursor}
 use Rattle.copy_chunk.specs.declared.chunk.Part.{Part}
 use Rattle.copy_chunk.specs.declared.draft.Draft.{Draft}
 use Rattle.copy_chunk.specs.Chunks.{Entry, entry_of}
-use Rattle.copy_chunk.specs.Gathers.{with_part, part_fits, table_fits, body_fits, made, wanted, IsChain}
+use Rattle.copy_chunk.specs.Gathers.{with_part, part_fits, table_fits, body_fits, made, wanted}
+use Rattle.copy_chunk.specs.Gathers.{IsChain}
 
 -- the state that a draft is
 abbrev pub state_of : Draft → NameState
 state_of d = record {
   ver = d.ver;
   seq = d.seq;
-  obj = if d.present then Some (record { body = d.body.items; attrs = fin.from_entries d.attrs.entries; omap = fin.from_entries d.omap.entries }) else None;
+  obj = if d.present then Some (record {
+    body = d.body.items;
+    attrs = fin.from_entries d.attrs.entries;
+    omap = fin.from_entries d.omap.entries;
+  }) else None;
   seen = d.seen;
 }
 

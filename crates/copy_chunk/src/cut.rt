@@ -3,7 +3,8 @@
 ghost use Rattle.std.specs.Prelude.{◌≡◌, ◌+◌, ◌<◌, ◌^◌, IfOk, take, nat_lt, if◌then◌else◌};
 ghost use Rattle.copy_chunk.specs.declared.chunk.Cursor.TheVariants as place;
 ghost use Rattle.copy_chunk.specs.Chunks.{chunks_of, chunk_at};
-ghost use Rattle.copy_chunk.specs.Cuts.{behind_attrs, behind_body, head_chunk, body_chunk, table_chunk, group_at, cut};
+ghost use Rattle.copy_chunk.specs.Cuts.{behind_attrs, behind_body, head_chunk, body_chunk};
+ghost use Rattle.copy_chunk.specs.Cuts.{table_chunk, group_at, cut};
 
 use crate::groups::{CHUNK_LIMIT, Group, group_at};
 use crate::{Chunk, Cursor, Part};
@@ -105,7 +106,8 @@ fn first_bytes(bytes: &[u8]) -> &[u8]
 // The place behind a piece of the body, from which on so many bytes are left.
 fn behind_piece(obj: &Obj, off: u64, left: usize) -> Cursor
     requires { off + left < 2 ^ 64 }
-    ensures { result ≡ (if nat_lt 65536 left then place.Body (off + 65536) else behind_body obj.now) }
+    ensures { result ≡ (if nat_lt 65536 left then place.Body (off + 65536)
+        else behind_body obj.now) }
 {
     if left > CHUNK_LIMIT {
         Cursor::Body(off + 65_536)
@@ -133,7 +135,8 @@ fn body_chunk(alloc: Global, obj: &Obj, off: u64) -> Result<Option<Chunk>, NoMem
 
 // The attributes behind a key.
 fn attrs_chunk(alloc: Global, obj: &Obj, key: &Option<Name>) -> Result<Option<Chunk>, NoMemory>
-    ensures { IfOk result (λ chunk. chunk ≡ table_chunk place.Attrs (behind_attrs obj.now) key.now (group_at obj.now.attrs key.now)) }
+    ensures { IfOk result (λ chunk. chunk
+        ≡ table_chunk place.Attrs (behind_attrs obj.now) key.now (group_at obj.now.attrs key.now)) }
 {
     let Some(Group { pairs, last }) = group_at(alloc, &obj.attrs, key.as_ref())? else {
         return Ok(None);
@@ -151,7 +154,8 @@ fn attrs_chunk(alloc: Global, obj: &Obj, key: &Option<Name>) -> Result<Option<Ch
 
 // The entries of the omap behind a key.
 fn omap_chunk(alloc: Global, obj: &Obj, key: &Option<Name>) -> Result<Option<Chunk>, NoMemory>
-    ensures { IfOk result (λ chunk. chunk ≡ table_chunk place.Omap place.Seen key.now (group_at obj.now.omap key.now)) }
+    ensures { IfOk result (λ chunk. chunk
+        ≡ table_chunk place.Omap place.Seen key.now (group_at obj.now.omap key.now)) }
 {
     let Some(Group { pairs, last }) = group_at(alloc, &obj.omap, key.as_ref())? else {
         return Ok(None);

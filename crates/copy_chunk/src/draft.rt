@@ -1,6 +1,7 @@
 //! A state in the making. What a part would break is found before anything changes, and want of
 //! memory leaves it as it was.
-ghost use Rattle.std.specs.Prelude.{◌≡◌, ◌≤◌, ◌+◌, ◌++◌, ◌^◌, nat_lt, nat_le, ◌&&◌, length, take, map, None, Some, IfOk, OnOk, OnErr};
+ghost use Rattle.std.specs.Prelude.{◌≡◌, ◌≤◌, ◌+◌, ◌++◌, ◌^◌, nat_lt, nat_le, ◌&&◌, length, take};
+ghost use Rattle.std.specs.Prelude.{map, None, Some, IfOk, OnOk, OnErr};
 ghost use Rattle.std.specs.BTreeMap.{IsOrdered};
 ghost use Rattle.std.specs.Option.{option_copied};
 ghost use Rattle.obj_model.specs.Names.{name_cmp};
@@ -8,7 +9,8 @@ ghost use Rattle.obj_model.specs.States.{unknown};
 ghost use Rattle.copy_chunk.specs.declared.chunk.Cursor.TheVariants.{Head, Attrs, Omap, Seen};
 ghost use Rattle.copy_chunk.specs.declared.chunk.Part.TheVariants as part;
 ghost use Rattle.copy_chunk.specs.Chunks.{entry_of, last_key};
-ghost use Rattle.copy_chunk.specs.Gathers.{goes_behind, pairs_fit, table_fits, body_fits, reply_fits, kept_fits, kepts_fit};
+ghost use Rattle.copy_chunk.specs.Gathers.{goes_behind, pairs_fit, table_fits, body_fits};
+ghost use Rattle.copy_chunk.specs.Gathers.{reply_fits, kept_fits, kepts_fit};
 ghost use Rattle.copy_chunk.specs.Steps.{IsRising, state_of, Puts, PutsTable, PutsBody};
 
 use crate::{Cursor, Part};
@@ -143,7 +145,8 @@ fn put_pairs(table: &mut Table, pairs: Vec<Pair>) -> Result<(), NoMemory>
 
 // The pairs of a part in a table of at most so many entries, where they fit.
 fn put_table(table: &mut Table, most: u64, pairs: PairList) -> Result<bool, NoMemory>
-    ensures put { IfOk result (λ done. PutsTable most pairs table.old.entries done table.new.entries) }
+    ensures put { IfOk result
+        (λ done. PutsTable most pairs table.old.entries done table.new.entries) }
     ensures refused { OnErr result (table.new.entries ≡ table.old.entries) }
     ensures rising { IsOrdered name_cmp table.old }
 {
@@ -185,7 +188,8 @@ impl Draft {
 
     // The head of a state, where it fits. It takes no memory.
     fn put_head(&mut self, ver: u64, seq: u64, present: bool) -> bool
-        ensures { Puts Head (part.Head ver seq present) (state_of self.old) result (state_of self.new) }
+        ensures { Puts Head (part.Head ver seq present) (state_of self.old) result
+            (state_of self.new) }
     {
         if ver > seq || seq > NUMBER_LIMIT {
             return false;
@@ -213,7 +217,9 @@ impl Draft {
 
     // Attributes behind those that are there, where they fit. Without memory nothing changes.
     fn put_attrs(&mut self, pairs: PairList) -> Result<bool, NoMemory>
-        ensures put { IfOk result (λ done. Puts (Attrs None) (part.Pairs pairs) (state_of self.old) done (state_of self.new)) }
+        ensures put { IfOk result
+            (λ done. Puts (Attrs None) (part.Pairs pairs) (state_of self.old) done
+            (state_of self.new)) }
         ensures refused { OnErr result (state_of self.new ≡ state_of self.old) }
     {
         if !self.present {
@@ -225,7 +231,9 @@ impl Draft {
     // Entries of the omap behind those that are there, where they fit. Without memory nothing
     // changes.
     fn put_omap(&mut self, pairs: PairList) -> Result<bool, NoMemory>
-        ensures put { IfOk result (λ done. Puts (Omap None) (part.Pairs pairs) (state_of self.old) done (state_of self.new)) }
+        ensures put { IfOk result
+            (λ done. Puts (Omap None) (part.Pairs pairs) (state_of self.old) done
+            (state_of self.new)) }
         ensures refused { OnErr result (state_of self.new ≡ state_of self.old) }
     {
         if !self.present {
@@ -236,7 +244,8 @@ impl Draft {
 
     /// Puts a part where it fits, and answers whether it did. Without memory nothing changes.
     pub(crate) fn put(&mut self, at: &Cursor, part: Part) -> Result<bool, NoMemory>
-        ensures put { IfOk result (λ done. Puts at.now part (state_of self.old) done (state_of self.new)) }
+        ensures put { IfOk result
+            (λ done. Puts at.now part (state_of self.old) done (state_of self.new)) }
         ensures refused { OnErr result (state_of self.new ≡ state_of self.old) }
     {
         match (at, part) {

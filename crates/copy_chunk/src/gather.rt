@@ -1,5 +1,6 @@
 //! Chunks gathered to a state.
-ghost use Rattle.std.specs.Prelude.{◌≡◌, ◌≢◌, true, false, [], Some, None, IfOk, OnErr, MatchResult};
+ghost use Rattle.std.specs.Prelude.{◌≡◌, ◌≢◌, true, false, [], Some, None, IfOk, OnErr};
+ghost use Rattle.std.specs.Prelude.{MatchResult};
 ghost use Rattle.std.specs.Option.{option_copied};
 ghost use Rattle.obj_model.specs.States.{IsState};
 ghost use Rattle.copy_chunk.specs.Gathers.{wanted, joined, leads, IsChain, Adds};
@@ -43,7 +44,8 @@ impl Model for Gather {
 
     ghost view = { λ g. map (λ s. s.value) g.chunks.items };
 
-    ghost invariant = { λ g. IsGathered (state_of g.draft) g.wanted (map (λ s. s.value) g.chunks.items) };
+    ghost invariant = { λ g. IsGathered (state_of g.draft) g.wanted
+        (map (λ s. s.value) g.chunks.items) };
 }
 
 impl Gather {
@@ -91,7 +93,8 @@ impl Gather {
     /// The state that the chunks join to; the gather as it was where a chunk is still wanted. It
     /// takes no memory.
     pub fn finish(self) -> Result<NameState, Gather>
-        ensures exact { MatchResult result (λ s. joined self ≡ Some s) (λ g. (g ≡ self) × (joined self ≡ None)) }
+        ensures exact { MatchResult result (λ s. joined self ≡ Some s)
+            (λ g. (g ≡ self) × (joined self ≡ None)) }
         ensures lawful { IfOk result IsState }
     {
         match &self.wanted {

@@ -1,5 +1,6 @@
 //! The pairs of one chunk of a table. Of the pairs before them the lengths alone are added up.
-ghost use Rattle.std.specs.Prelude.{◌≡◌, ◌+◌, ◌-◌, ◌++◌, ◌∷◌, [], IfOk, OnOk, Some, None, length, nat_le, if◌then◌else◌};
+ghost use Rattle.std.specs.Prelude.{◌≡◌, ◌+◌, ◌-◌, ◌++◌, ◌∷◌, [], IfOk, OnOk, Some, None, length};
+ghost use Rattle.std.specs.Prelude.{nat_le, if◌then◌else◌};
 ghost use Rattle.std.specs.Option.{option_copied};
 ghost use Rattle.std.specs.FinMap as fin;
 ghost use Rattle.obj_model.specs.Tables.{entries_above};
@@ -68,7 +69,8 @@ fn first_group(
     table: &PairMap,
     after: Option<&Name>,
 ) -> Result<Option<Group>, NoMemory>
-    ensures { IfOk result (λ group. group ≡ first_group (entries_above (option_copied after.entry) table.now)) }
+    ensures { IfOk result (λ group. group
+        ≡ first_group (entries_above (option_copied after.entry) table.now)) }
 {
     let mut left = table.iter_above(after);
     let Some((first, value)) = left.next() else {

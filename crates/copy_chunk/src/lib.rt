@@ -16,4 +16,4 @@ mod laws;
 pub use chunk::{Chunk, Cursor, Part};
 pub use cut::chunk_of;
 pub use gather::{Added, Gather};
-pub use laws::{chains_are_fronts, chunks_join, fronts_go_on, fronts_join};
+pub use laws::{chains_are_fronts, chunks_join, fronts_go_on, fronts_join, own_chunks_fit};

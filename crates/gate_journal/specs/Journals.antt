@@ -1,6 +1,7 @@
 -- What a range of bytes means as a journal: the payloads that it spells, or that it is no journal,
 -- and where.
-use Rattle.std.specs.Prelude.{◌≡◌, ◌≢◌, ◌⊎◌, ℕ, ◌+◌, ◌<◌, ◌≤◌, List, [], ◌∷◌, ◌++◌, length, take, drop, slice_index}
+use Rattle.std.specs.Prelude.{◌≡◌, ◌≢◌, ◌⊎◌, ℕ, ◌+◌, ◌<◌, ◌≤◌, List, [], ◌∷◌, ◌++◌, length, take}
+use Rattle.std.specs.Prelude.{drop, slice_index}
 use Rattle.byteorder.specs.Endian.{big_number, big_bytes}
 
 -- the number of four bytes behind a gate, the greatest first, which is its record's length
@@ -18,7 +19,8 @@ pub record IsRecord (bytes : List ℕ) (gate : ℕ) (payload : List ℕ) : Type 
 -- them
 abbrev pub AreRecords : List ℕ → ℕ → List (List ℕ) → ℕ → Type 0
 AreRecords bytes gate [] next = gate ≡ next
-AreRecords bytes gate (payload ∷ payloads) next = IsRecord bytes gate payload × AreRecords bytes (gate + 5 + length payload) payloads next
+AreRecords bytes gate (payload ∷ payloads) next =
+    IsRecord bytes gate payload × AreRecords bytes (gate + 5 + length payload) payloads next
 
 -- the gate is there, and it is not open
 pub record IsClosed (bytes : List ℕ) (gate : ℕ) : Type 0 where

@@ -1,5 +1,5 @@
 -- A journal on a disk that may stop: what stands of it, and what each image of a moment may hold.
-use Rattle.std.specs.Prelude.{◌≡◌, ◌⊎◌, ℕ, ◌+◌, ◌<◌, ◌≤◌, ◌^◌, List, [], ◌∷◌, ◌++◌, length, slice_index, Option, false}
+use Rattle.std.specs.Prelude.{◌⊎◌, ℕ, ◌+◌, ◌<◌, ◌≤◌, ◌^◌, List, [], ◌∷◌, ◌++◌, length}
 use Rattle.tier_outside.specs.Disk.{DiskMoment, RangeStands, written}
 use Rattle.gate_journal.specs.Journals.{Spells, behind_gate}
 use Rattle.gate_journal.specs.declared.journal.Journal.{Journal}
@@ -26,13 +26,15 @@ gate_alone at end = record { start = at; next = at; end = end }
 
 -- the journal behind one more payload
 abbrev pub longer : Journal → List ℕ → Journal
-longer journal payload = record { start = journal.start; next = journal.next + 5 + length payload; end = journal.end }
+longer journal payload =
+    record { start = journal.start; next = journal.next + 5 + length payload; end = journal.end }
 
 -- an image holds the payloads, with one more or without it
 abbrev pub HoldsWithOrWithout : Journal → List (List ℕ) → List ℕ → List ℕ → Type 0
 HoldsWithOrWithout journal payloads payload image =
     Spells journal.start journal.end image payloads journal.next
-    ⊎ Spells journal.start journal.end image (payloads ++ payload ∷ []) (longer journal payload).next
+    ⊎ Spells journal.start journal.end image (payloads ++ payload ∷ [])
+    (longer journal payload).next
 
 -- what a disk reads as where the open record of a payload and a closed gate behind it stand at a
 -- gate

@@ -1,11 +1,13 @@
 //! Adding records to a journal, so that at each moment a stop leaves a record whole or not there.
-ghost use Rattle.std.specs.Prelude.{◌≡◌, ◌⊎◌, ◌+◌, ◌<◌, ◌≤◌, ◌^◌, List, ℕ, [], ◌∷◌, ◌++◌, length, IfOk, OnOk, OnErr};
+ghost use Rattle.std.specs.Prelude.{◌≡◌, ◌⊎◌, ◌+◌, ◌<◌, ◌≤◌, ◌^◌, List, ℕ, [], ◌∷◌, ◌++◌, length};
+ghost use Rattle.std.specs.Prelude.{IfOk, OnOk, OnErr};
 ghost use Rattle.tier_outside.specs.Causes.{HasCause, Rose};
 ghost use Rattle.tier_outside.specs.Disk.{settled, StopsIn};
 ghost use Rattle.tier_outside.specs.DiskMoments.{Now, Then, Leaves};
 ghost use Rattle.gate_journal.specs.Calls.{AddEnds};
 ghost use Rattle.gate_journal.specs.Journals.{IsClosed};
-ghost use Rattle.gate_journal.specs.Stands.{InRange, Standing, StandsAs, HoldsWithOrWithout, gate_alone, longer, recorded};
+ghost use Rattle.gate_journal.specs.Stands.{InRange, Standing, StandsAs, HoldsWithOrWithout};
+ghost use Rattle.gate_journal.specs.Stands.{gate_alone, longer, recorded};
 
 use crate::Journal;
 use crate::record::{Record, record_body};
@@ -32,22 +34,31 @@ pub fn start<D: Disk>(
     requires size { length first.now < 2 ^ 32 }
 
     ensures answer { AddEnds at (length first.now + 6) end
-        ((D.moments disk.new ≡ D.moments disk.old) × (D.faults disk.new ≡ D.faults disk.old)) (Rose (D.faults disk.old) (D.faults disk.new)) result }
+        ((D.moments disk.new ≡ D.moments disk.old) × (D.faults disk.new ≡ D.faults disk.old))
+        (Rose (D.faults disk.old) (D.faults disk.new)) result }
     ensures journal { IfOk result (λ journal. journal ≡ longer (gate_alone at end) first.now) }
-    ensures written { OnOk result (Then (D.moments disk.old) (D.moments disk.new) (λ d e. e ≡ settled (recorded at first.now d.content))) }
-    ensures stands { IfOk result (λ journal. Now (D.moments disk.new) (StandsAs journal (first.now ∷ []))) }
+    ensures written { OnOk result
+        (Then (D.moments disk.old) (D.moments disk.new)
+        (λ d e. e ≡ settled (recorded at first.now d.content))) }
+    ensures stands { IfOk result
+        (λ journal. Now (D.moments disk.new) (StandsAs journal (first.now ∷ []))) }
     ensures standing { IfOk result (λ journal. Now (D.moments disk.new) (Standing journal)) }
 
     // Where a closed gate stood at the offset, a stop at any moment of the call leaves a closed
     // gate there, or the whole record.
-    ensures closed_before { Leaves (D.moments disk.old) (D.moments disk.new) (λ d image. StandsAs (gate_alone at end) [] d → HoldsWithOrWithout (gate_alone at end) [] first.now image) }
+    ensures closed_before { Leaves (D.moments disk.old) (D.moments disk.new)
+        (λ d image. StandsAs (gate_alone at end) [] d
+        → HoldsWithOrWithout (gate_alone at end) [] first.now image) }
 
     // Where none was read there, it may also leave what it might have left before, but for that one
     // byte.
-    ensures open_before { Leaves (D.moments disk.old) (D.moments disk.new) (λ d image. ¬ IsClosed d.content at → StopsIn at 1 d image ⊎ HoldsWithOrWithout (gate_alone at end) [] first.now image) }
+    ensures open_before { Leaves (D.moments disk.old) (D.moments disk.new)
+        (λ d image. ¬ IsClosed d.content at
+        → StopsIn at 1 d image ⊎ HoldsWithOrWithout (gate_alone at end) [] first.now image) }
 
     // Outside of the record and the gate behind it, it leaves what it might have left before.
-    ensures outside { Leaves (D.moments disk.old) (D.moments disk.new) (StopsIn at (length first.now + 6)) }
+    ensures outside { Leaves (D.moments disk.old) (D.moments disk.new)
+        (StopsIn at (length first.now + 6)) }
     ensures later { D.faults disk.old ≤ D.faults disk.new }
 {
     let need = first.len() as u64 + 6;
@@ -81,16 +92,19 @@ pub fn add<D: Disk>(disk: &mut D, journal: &mut Journal, more: Record) -> Result
     ensures written { OnOk result (Then (D.moments disk.old) (D.moments disk.new)
         (λ d e. e ≡ settled (recorded journal.old.next more d.content))) }
     ensures stands { OnOk result (Then (D.moments disk.old) (D.moments disk.new)
-        (λ d e. (payloads : List (List ℕ)) → StandsAs journal.old payloads d → StandsAs journal.new (payloads ++ more ∷ []) e)) }
+        (λ d e. (payloads : List (List ℕ)) → StandsAs journal.old payloads d
+        → StandsAs journal.new (payloads ++ more ∷ []) e)) }
     ensures standing { OnOk result (Now (D.moments disk.new) (Standing journal.new)) }
 
     // A stop at any moment of the call leaves the payloads from before it, with the new one or
     // without.
     ensures any_moment { Leaves (D.moments disk.old) (D.moments disk.new)
-        (λ d image. (payloads : List (List ℕ)) → StandsAs journal.old payloads d → HoldsWithOrWithout journal.old payloads more image) }
+        (λ d image. (payloads : List (List ℕ)) → StandsAs journal.old payloads d
+        → HoldsWithOrWithout journal.old payloads more image) }
 
     // Outside of the record and the gate behind it, it leaves what it might have left before.
-    ensures outside { Leaves (D.moments disk.old) (D.moments disk.new) (StopsIn journal.old.next (length more + 6)) }
+    ensures outside { Leaves (D.moments disk.old) (D.moments disk.new)
+        (StopsIn journal.old.next (length more + 6)) }
 {
     let body = more.bytes();
     add_record(disk, journal.next, body)?;
@@ -115,20 +129,28 @@ pub fn append<D: Disk>(
     requires standing { Now (D.moments disk.old) (Standing journal.old) }
 
     ensures answer { AddEnds (journal.old.next + 1) (length payload.now + 5) journal.old.end
-        ((D.moments disk.new ≡ D.moments disk.old) × (D.faults disk.new ≡ D.faults disk.old)) (Rose (D.faults disk.old) (D.faults disk.new)) result }
+        ((D.moments disk.new ≡ D.moments disk.old) × (D.faults disk.new ≡ D.faults disk.old))
+        (Rose (D.faults disk.old) (D.faults disk.new)) result }
     ensures moved { OnOk result (journal.new ≡ longer journal.old payload.now) }
     ensures kept { OnErr result (journal.new ≡ journal.old) }
-    ensures written { OnOk result (Then (D.moments disk.old) (D.moments disk.new) (λ d e. e ≡ settled (recorded journal.old.next payload.now d.content))) }
-    ensures stands { OnOk result (Then (D.moments disk.old) (D.moments disk.new) (λ d e. (payloads : List (List ℕ)) → StandsAs journal.old payloads d → StandsAs journal.new (payloads ++ payload.now ∷ []) e)) }
+    ensures written { OnOk result
+        (Then (D.moments disk.old) (D.moments disk.new)
+        (λ d e. e ≡ settled (recorded journal.old.next payload.now d.content))) }
+    ensures stands { OnOk result
+        (Then (D.moments disk.old) (D.moments disk.new)
+        (λ d e. (payloads : List (List ℕ)) → StandsAs journal.old payloads d
+        → StandsAs journal.new (payloads ++ payload.now ∷ []) e)) }
     ensures standing { OnOk result (Now (D.moments disk.new) (Standing journal.new)) }
 
     // A stop at any moment of the call leaves the payloads from before it, with the new one or
     // without.
     ensures any_moment { Leaves (D.moments disk.old) (D.moments disk.new)
-        (λ d image. (payloads : List (List ℕ)) → StandsAs journal.old payloads d → HoldsWithOrWithout journal.old payloads payload.now image) }
+        (λ d image. (payloads : List (List ℕ)) → StandsAs journal.old payloads d
+        → HoldsWithOrWithout journal.old payloads payload.now image) }
 
     // Outside of the record and the gate behind it, it leaves what it might have left before.
-    ensures outside { Leaves (D.moments disk.old) (D.moments disk.new) (StopsIn journal.old.next (length payload.now + 6)) }
+    ensures outside { Leaves (D.moments disk.old) (D.moments disk.new)
+        (StopsIn journal.old.next (length payload.now + 6)) }
     ensures later { D.faults disk.old ≤ D.faults disk.new }
 {
     match Record::new(alloc, journal, payload) {

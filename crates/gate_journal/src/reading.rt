@@ -29,10 +29,13 @@ pub fn walk<D: Disk>(
     requires order { at ≤ end }
     requires limit { end ≤ 2 ^ 41 }
 
-    ensures read { WalkEnds at end (D.moments disk.old) (Rose (D.faults disk.old) (D.faults disk.new)) result }
+    ensures read { WalkEnds at end (D.moments disk.old)
+        (Rose (D.faults disk.old) (D.faults disk.new)) result }
 
     // Where its bytes are settled, as after a restart, it can be appended to.
-    ensures stands { IfOk result (λ walked. Now (D.moments disk.new) (λ d. RangeStands at (walked.0.next + 1) d → StandsAs walked.0 walked.1 d)) }
+    ensures stands { IfOk result
+        (λ walked. Now (D.moments disk.new)
+        (λ d. RangeStands at (walked.0.next + 1) d → StandsAs walked.0 walked.1 d)) }
 
     ensures same { D.moments disk.new ≡ D.moments disk.old }
     ensures later { D.faults disk.old ≤ D.faults disk.new }

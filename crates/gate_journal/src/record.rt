@@ -5,7 +5,7 @@ ghost use Rattle.tier_outside.specs.DiskMoments.{Now};
 ghost use Rattle.gate_journal.specs.Journals.{behind_gate};
 ghost use Rattle.gate_journal.specs.Calls.{AddEnds};
 ghost use Rattle.gate_journal.specs.Stands.{InRange};
-ghost use Rattle.gate_journal.specs.Steps.{HeadRead, RecordRead};
+ghost use Rattle.gate_journal.specs.Steps.Reading.{HeadRead, RecordRead};
 
 use crate::Journal;
 use crate::step::{CLOSED, OPEN};
@@ -39,7 +39,7 @@ pub struct Record {
 impl Model for Record {
     ghost use Rattle.std.specs.Prelude.{List, ℕ};
     ghost use Rattle.std.specs.Coded.{coded_ℕ, coded_list};
-    ghost use Rattle.gate_journal.specs.Steps.{IsBody, payload_of};
+    ghost use Rattle.gate_journal.specs.Steps.Bodies.{IsBody, payload_of};
 
     ghost Value = { List ℕ };
 
@@ -59,7 +59,8 @@ impl Record {
     pub fn new(alloc: Global, journal: &Journal, payload: &[u8]) -> Result<Record, StoreFault>
         requires in_range { InRange journal.now }
         requires size { length payload.now < 2 ^ 32 }
-        ensures answer { AddEnds (journal.now.next + 1) (length payload.now + 5) journal.now.end (Unit {0}) ⊥ result }
+        ensures answer { AddEnds (journal.now.next + 1) (length payload.now + 5) journal.now.end
+            (Unit {0}) ⊥ result }
         ensures payload { IfOk result (λ made. made ≡ payload.now) }
     {
         let used = journal.next + 1;
@@ -88,7 +89,8 @@ impl Record {
 fn read_head<D: Disk>(disk: &mut D, gate: u64, limit: u64) -> Result<Option<u64>, StoreFault>
     requires small { limit ≤ 2 ^ 41 }
     requires there { Now (D.moments disk.old) (λ d. limit ≤ length d.content) }
-    ensures read { HeadRead gate limit (D.moments disk.old) (Rose (D.faults disk.old) (D.faults disk.new)) result }
+    ensures read { HeadRead gate limit (D.moments disk.old)
+        (Rose (D.faults disk.old) (D.faults disk.new)) result }
     ensures same { D.moments disk.new ≡ D.moments disk.old }
     ensures later { D.faults disk.old ≤ D.faults disk.new }
 {
@@ -121,7 +123,8 @@ pub fn read_record<D: Disk>(
 ) -> Result<Option<Bytes>, StoreFault>
     requires small { limit ≤ 2 ^ 41 }
     requires there { Now (D.moments disk.old) (λ d. limit ≤ length d.content) }
-    ensures read { RecordRead gate limit (D.moments disk.old) (Rose (D.faults disk.old) (D.faults disk.new)) result }
+    ensures read { RecordRead gate limit (D.moments disk.old)
+        (Rose (D.faults disk.old) (D.faults disk.new)) result }
     ensures same { D.moments disk.new ≡ D.moments disk.old }
     ensures later { D.faults disk.old ≤ D.faults disk.new }
 {

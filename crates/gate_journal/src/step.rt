@@ -3,7 +3,7 @@ ghost use Rattle.std.specs.Prelude.{◌≡◌, ◌+◌, ◌<◌, ◌≤◌, ◌^
 ghost use Rattle.tier_outside.specs.Causes.{HasCause};
 ghost use Rattle.tier_outside.specs.Disk.{settled, written, StopsIn};
 ghost use Rattle.tier_outside.specs.DiskMoments.{Then, Leaves};
-ghost use Rattle.gate_journal.specs.Steps.{AddStops, GateCloses, GateStops, opened, staged};
+ghost use Rattle.gate_journal.specs.Steps.Writing.{AddStops, GateCloses, GateStops, opened, staged};
 
 use tier_outside::{Disk, DiskFault};
 
@@ -17,8 +17,12 @@ pub const CLOSED: u8 = 0;
 /// range might leave.
 pub fn put<D: Disk>(disk: &mut D, off: u64, bytes: &[u8]) -> Result<(), DiskFault>
     requires { off + length bytes.now ≤ 2 ^ 41 }
-    ensures any_moment { Leaves (D.moments disk.old) (D.moments disk.new) (λ d image. StopsIn off (length bytes.now) d image) }
-    ensures done { OnOk result (Then (D.moments disk.old) (D.moments disk.new) (λ d e. (e ≡ settled (written off bytes.now d.content)) × StopsIn off (length bytes.now) d (written off bytes.now d.content))) }
+    ensures any_moment { Leaves (D.moments disk.old) (D.moments disk.new)
+        (λ d image. StopsIn off (length bytes.now) d image) }
+    ensures done { OnOk result
+        (Then (D.moments disk.old) (D.moments disk.new)
+        (λ d e. (e ≡ settled (written off bytes.now d.content))
+        × StopsIn off (length bytes.now) d (written off bytes.now d.content))) }
     ensures cause { HasCause (D.faults disk.old) (D.faults disk.new) result }
 {
     disk.write_at(off, bytes)?;
@@ -30,8 +34,12 @@ pub fn put<D: Disk>(disk: &mut D, off: u64, bytes: &[u8]) -> Result<(), DiskFaul
 /// before the gate is opened: a gate that a stop leaves open has a whole record behind it.
 pub fn add_record<D: Disk>(disk: &mut D, gate: u64, body: &[u8]) -> Result<(), DiskFault>
     requires { gate + 1 + length body.now ≤ 2 ^ 41 }
-    ensures any_moment { Leaves (D.moments disk.old) (D.moments disk.new) (λ d image. AddStops gate body.now d image) }
-    ensures done { OnOk result (Then (D.moments disk.old) (D.moments disk.new) (λ d e. (e ≡ settled (opened gate body.now d.content)) × StopsIn (gate + 1) (length body.now) d (staged gate body.now d.content))) }
+    ensures any_moment { Leaves (D.moments disk.old) (D.moments disk.new)
+        (λ d image. AddStops gate body.now d image) }
+    ensures done { OnOk result
+        (Then (D.moments disk.old) (D.moments disk.new)
+        (λ d e. (e ≡ settled (opened gate body.now d.content))
+        × StopsIn (gate + 1) (length body.now) d (staged gate body.now d.content))) }
     ensures cause { HasCause (D.faults disk.old) (D.faults disk.new) result }
 {
     put(disk, gate + 1, body)?;

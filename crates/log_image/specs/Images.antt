@@ -1,5 +1,6 @@
 -- What the bytes of a disk mean as a log of transactions: a map, or that the disk is empty.
-use Rattle.std.specs.Prelude.{◌≡◌, ◌≢◌, ◌⊎◌, ℕ, ◌+◌, ◌<◌, ◌≤◌, ◌^◌, List, [], ◌∷◌, ◌++◌, length, take, drop, slice_index, codes}
+use Rattle.std.specs.Prelude.{◌≡◌, ◌≢◌, ◌⊎◌, ℕ, ◌+◌, ◌<◌, ◌≤◌, ◌^◌, List, [], ◌∷◌, ◌++◌, length}
+use Rattle.std.specs.Prelude.{take, drop, slice_index, codes}
 use Rattle.std.specs.FinMap as fin
 use Rattle.byteorder.specs.Endian.{big_bytes}
 use Rattle.obj_model.specs.declared.change.Change.{Change}
@@ -38,7 +39,8 @@ pub record IsHalfOpen (role : Pool) (pair : ℕ) (image : List ℕ) : Type 0 whe
 -- a disk that opening formats for this pair: it has at most one byte, or begins with a zero, or
 -- formatting stopped at its last write
 abbrev pub IsBlank : Pool → ℕ → List ℕ → Type 0
-IsBlank role pair image = (length image ≤ 1) ⊎ (slice_index image 0 ≡ 0) ⊎ IsHalfOpen role pair image
+IsBlank role pair image =
+    (length image ≤ 1) ⊎ (slice_index image 0 ≡ 0) ⊎ IsHalfOpen role pair image
 
 -- a disk that is empty, for whichever pair
 abbrev pub IsEmpty : Pool → List ℕ → Type 0
@@ -74,4 +76,5 @@ pub record HoldsLog (role : Pool) (pair : ℕ) (image : List ℕ) (log : Durable
 
 -- the bytes hold a map
 abbrev pub HoldsMap : Pool → ℕ → List ℕ → Table → Type 0
-HoldsMap role pair image t = (used : ℕ) × HoldsLog role pair image (record { table = t; used = used })
+HoldsMap role pair image t =
+    (used : ℕ) × HoldsLog role pair image (record { table = t; used = used })

@@ -3,7 +3,7 @@ use Rattle.std.specs.Prelude.{◌≡◌, ◌⊎◌, ℕ, ◌<◌, ◌≤◌, Lis
 use Rattle.std.specs.FinMap as fin
 use Rattle.obj_model.specs.declared.change.Change.{Change}
 use Rattle.obj_model.specs.declared.change.Pool.{Pool}
-use Rattle.tier_outside.specs.Disk.{DiskMoment, settled}
+use Rattle.tier_outside.specs.Disk.{DiskMoment}
 use Rattle.gate_journal.specs.Stands.{StandsAs}
 use Rattle.gate_journal.specs.declared.journal.Journal.{Journal}
 use Rattle.store_face.specs.Limits.{store_limit}
@@ -23,7 +23,8 @@ ends_at end journal = record { start = journal.start; next = journal.next; end =
 
 -- The log stands on the disk with this map, whatever a stop leaves: its bytes up to its closed gate
 -- are settled.
-pub record LogStands (role : Pool) (pair : ℕ) (journal : Journal) (table : Table) (d : DiskMoment) : Type 0 where
+pub record LogStands (role : Pool) (pair : ℕ) (journal : Journal) (table : Table)
+    (d : DiskMoment) : Type 0 where
   pub payloads : List (List ℕ)
   pub txns : List (List Change)
   pub stands : StandsAs journal (head role pair ∷ payloads) d

@@ -8,7 +8,7 @@ ghost use Rattle.tier_outside.specs.DiskMoments.{Now, Leaves};
 ghost use Rattle.log_image.specs.Images.{IsHalfOpen, rest};
 ghost use Rattle.log_image.specs.Fronts.{IsUnwritten};
 ghost use Rattle.log_image.specs.Standing.{BlankOrNew, LogStands, first_journal};
-ghost use Rattle.log_image.specs.Steps.{IsZeroed, RestStands};
+ghost use Rattle.log_image.specs.Steps.Formatting.{IsZeroed, RestStands};
 
 use crate::head::{CLOSED, LOG_LIMIT, OPEN, role_byte};
 use byteorder::{BigEndian, ByteOrder};
@@ -29,9 +29,11 @@ pub fn format_log<D: Disk>(
 ) -> Result<Journal, DiskFault>
     requires settled { Now (D.moments disk.old) IsSettled }
     requires blank { Now (D.moments disk.old) (λ d. IsUnwritten d.content zeroed) }
-    ensures any_moment { Leaves (D.moments disk.old) (D.moments disk.new) (λ d image. BlankOrNew role pair image) }
+    ensures any_moment { Leaves (D.moments disk.old) (D.moments disk.new)
+        (λ d image. BlankOrNew role pair image) }
     ensures journal { IfOk result (λ journal. journal ≡ first_journal) }
-    ensures stands { IfOk result (λ journal. Now (D.moments disk.new) (LogStands role pair journal fin.empty)) }
+    ensures stands { IfOk result
+        (λ journal. Now (D.moments disk.new) (LogStands role pair journal fin.empty)) }
     ensures cause { HasCause (D.faults disk.old) (D.faults disk.new) result }
 {
     close_first(disk, zeroed)?;
@@ -44,9 +46,11 @@ pub fn format_log<D: Disk>(
 pub fn finish_format<D: Disk>(disk: &mut D, role: Pool, pair: u64) -> Result<Journal, DiskFault>
     requires settled { Now (D.moments disk.old) IsSettled }
     requires half { Now (D.moments disk.old) (λ d. IsHalfOpen role pair d.content) }
-    ensures any_moment { Leaves (D.moments disk.old) (D.moments disk.new) (λ d image. BlankOrNew role pair image) }
+    ensures any_moment { Leaves (D.moments disk.old) (D.moments disk.new)
+        (λ d image. BlankOrNew role pair image) }
     ensures journal { IfOk result (λ journal. journal ≡ first_journal) }
-    ensures stands { IfOk result (λ journal. Now (D.moments disk.new) (LogStands role pair journal fin.empty)) }
+    ensures stands { IfOk result
+        (λ journal. Now (D.moments disk.new) (LogStands role pair journal fin.empty)) }
     ensures cause { HasCause (D.faults disk.old) (D.faults disk.new) result }
 {
     open_first(disk, role, pair)
@@ -57,7 +61,8 @@ pub fn finish_format<D: Disk>(disk: &mut D, role: Pool, pair: u64) -> Result<Jou
 fn close_first<D: Disk>(disk: &mut D, zeroed: bool) -> Result<(), DiskFault>
     requires settled { Now (D.moments disk.old) IsSettled }
     requires blank { Now (D.moments disk.old) (λ d. IsUnwritten d.content zeroed) }
-    ensures any_moment { Leaves (D.moments disk.old) (D.moments disk.new) (λ d image. length image ≤ 1) }
+    ensures any_moment { Leaves (D.moments disk.old) (D.moments disk.new)
+        (λ d image. length image ≤ 1) }
     ensures zeroed { OnOk result (Now (D.moments disk.new) IsZeroed) }
     ensures cause { HasCause (D.faults disk.old) (D.faults disk.new) result }
 {
@@ -70,7 +75,8 @@ fn close_first<D: Disk>(disk: &mut D, zeroed: bool) -> Result<(), DiskFault>
 // Writes and settles all that stands behind the first gate, which stays closed.
 fn stage<D: Disk>(disk: &mut D, role: Pool, pair: u64) -> Result<(), DiskFault>
     requires { Now (D.moments disk.old) IsZeroed }
-    ensures any_moment { Leaves (D.moments disk.old) (D.moments disk.new) (λ d image. slice_index image 0 ≡ 0) }
+    ensures any_moment { Leaves (D.moments disk.old) (D.moments disk.new)
+        (λ d image. slice_index image 0 ≡ 0) }
     ensures staged { OnOk result (Now (D.moments disk.new) (RestStands role pair)) }
     ensures cause { HasCause (D.faults disk.old) (D.faults disk.new) result }
 {
@@ -81,9 +87,11 @@ fn stage<D: Disk>(disk: &mut D, role: Pool, pair: u64) -> Result<(), DiskFault>
 // Writes and settles the first gate, behind which all stands.
 fn open_first<D: Disk>(disk: &mut D, role: Pool, pair: u64) -> Result<Journal, DiskFault>
     requires { Now (D.moments disk.old) (RestStands role pair) }
-    ensures any_moment { Leaves (D.moments disk.old) (D.moments disk.new) (λ d image. BlankOrNew role pair image) }
+    ensures any_moment { Leaves (D.moments disk.old) (D.moments disk.new)
+        (λ d image. BlankOrNew role pair image) }
     ensures journal { IfOk result (λ journal. journal ≡ first_journal) }
-    ensures stands { IfOk result (λ journal. Now (D.moments disk.new) (LogStands role pair journal fin.empty)) }
+    ensures stands { IfOk result
+        (λ journal. Now (D.moments disk.new) (LogStands role pair journal fin.empty)) }
     ensures cause { HasCause (D.faults disk.old) (D.faults disk.new) result }
 {
     put(disk, 0, &[OPEN])?;

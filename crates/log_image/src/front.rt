@@ -4,7 +4,7 @@ ghost use Rattle.tier_outside.specs.Causes.{HasCause};
 ghost use Rattle.tier_outside.specs.Disk.{IsImage};
 ghost use Rattle.tier_outside.specs.DiskMoments.{Now};
 ghost use Rattle.log_image.specs.Fronts.{FrontIs, head_fault, pair_at};
-ghost use Rattle.log_image.specs.Steps.{has_rest, stands};
+ghost use Rattle.log_image.specs.Steps.Looking.{has_rest, stands};
 
 use crate::head::{CLOSED, OPEN, role_byte};
 use byteorder::{BigEndian, ByteOrder};
@@ -33,7 +33,8 @@ pub enum Front {
 /// (0), the length is that of a head (1), the magic is `RTLOG001` (5), the pool is the one that is
 /// asked for (13). A head that ends before its pair does is broken at its gate, 0.
 pub fn look_at_head<D: Disk>(disk: &mut D, role: Pool) -> Result<Front, DiskFault>
-    ensures front { IfOk result (λ front. Now (D.moments disk.old) (λ d. FrontIs role d.content front)) }
+    ensures front { IfOk result
+        (λ front. Now (D.moments disk.old) (λ d. FrontIs role d.content front)) }
     ensures same { D.moments disk.new ≡ D.moments disk.old }
     ensures image { Now (D.moments disk.new) (λ d. IsImage d d.content) }
     ensures cause { HasCause (D.faults disk.old) (D.faults disk.new) result }

@@ -3,7 +3,7 @@ ghost use Rattle.std.specs.Prelude.{◌≡◌, ◌≤◌, ◌+◌, slice_index, 
 ghost use Rattle.tier_outside.specs.Causes.{Rose};
 ghost use Rattle.tier_outside.specs.DiskMoments.{Now};
 ghost use Rattle.log_image.specs.Calls.{ReadEnds};
-ghost use Rattle.log_image.specs.Rebuilding.{RebuildEnds, ReplayEnds, told};
+ghost use Rattle.log_image.specs.Steps.Rebuilding.{RebuildEnds, ReplayEnds, told};
 
 use crate::head::LOG_LIMIT;
 use gate_journal::{Journal, walk};
@@ -66,7 +66,8 @@ fn rebuild(alloc: Global, payloads: Items<Bytes>) -> Result<PoolMap, StoreFault>
 /// is not open after all, it tells that gate, 0.
 pub fn read_log<D: Disk>(alloc: Global, disk: &mut D) -> Result<(Journal, PoolMap), StoreFault>
     requires opened { Now (D.moments disk.old) (λ d. slice_index d.content 0 ≡ 1) }
-    ensures read { ReadEnds (D.moments disk.old) (Rose (D.faults disk.old) (D.faults disk.new)) result }
+    ensures read { ReadEnds (D.moments disk.old)
+        (Rose (D.faults disk.old) (D.faults disk.new)) result }
     ensures same { D.moments disk.new ≡ D.moments disk.old }
     ensures later { D.faults disk.old ≤ D.faults disk.new }
 {

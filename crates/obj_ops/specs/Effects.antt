@@ -1,11 +1,14 @@
 -- What single sub-operations do to an object, in small words.
-use Rattle.std.specs.Prelude.{ℕ, ◌+◌, ◌-◌, min, Bool, List, [], ◌∷◌, ◌++◌, length, map, take, drop, replicate, Option, Some, None, is_none, Result, Ok, Err, if◌then◌else◌, nat_lt, nat_le, ◌==◌, ◌&&◌, bytes_eq}
+use Rattle.std.specs.Prelude.{ℕ, ◌+◌, ◌-◌, min, Bool, List, [], ◌∷◌, ◌++◌, length, map, take, drop}
+use Rattle.std.specs.Prelude.{replicate, Option, Some, None, is_none, Result, Ok, Err}
+use Rattle.std.specs.Prelude.{if◌then◌else◌, nat_lt, nat_le, ◌==◌, ◌&&◌, bytes_eq}
 use Rattle.std.specs.FinMap as fin
 use Rattle.obj_model.specs.Limits.{body_limit, attrs_limit, omap_limit, value_limit}
 use Rattle.obj_model.specs.Tables.{Table, entries_above}
 use Rattle.obj_model.specs.declared.state.Obj.{Obj}
 use Rattle.obj_model.specs.declared.reply.Why.{Why}
-use Rattle.obj_model.specs.declared.reply.Why.TheVariants.{Exists, NoEnt, NoData, Canceled, Range, Overflow, TooBig}
+use Rattle.obj_model.specs.declared.reply.Why.TheVariants.{Exists, NoEnt, NoData, Canceled, Range}
+use Rattle.obj_model.specs.declared.reply.Why.TheVariants.{Overflow, TooBig}
 use Rattle.obj_model.specs.declared.out.Pair.{Pair}
 use Rattle.obj_model.specs.declared.out.Out.{Out}
 use Rattle.obj_model.specs.declared.out.Out.TheVariants.{Checked, Bytes}
@@ -61,11 +64,13 @@ resized size body = take size body ++ replicate (size - length body) 0
 -- a body with these bytes at `off`, a gap filled with zeros; no bytes change nothing
 abbrev pub written : ℕ → List ℕ → List ℕ → List ℕ
 written off [] body = body
-written off (b ∷ bytes) body = resized off body ++ (b ∷ bytes) ++ drop (off + length (b ∷ bytes)) body
+written off (b ∷ bytes) body =
+    resized off body ++ (b ∷ bytes) ++ drop (off + length (b ∷ bytes)) body
 
 -- a body whose bytes from `off` to `off + len` are zero, as many as it has there
 abbrev pub zeroed : ℕ → ℕ → List ℕ → List ℕ
-zeroed off len body = take off body ++ replicate (min len (length body - off)) 0 ++ drop (off + len) body
+zeroed off len body =
+    take off body ++ replicate (min len (length body - off)) 0 ++ drop (off + len) body
 
 -- the object with this body
 abbrev pub put_body : List ℕ → Obj → Change
@@ -77,7 +82,8 @@ with_body bytes x = within body_limit (length bytes) (put_body bytes x)
 
 -- the object with these bytes in its body; what is asked is where they end
 abbrev pub with_bytes : ℕ → List ℕ → Obj → Change
-with_bytes off bytes x = within body_limit (off + length bytes) (put_body (written off bytes x.body) x)
+with_bytes off bytes x =
+    within body_limit (off + length bytes) (put_body (written off bytes x.body) x)
 
 -- the object with these bytes behind its body
 abbrev pub with_more : List ℕ → Obj → Change
@@ -117,7 +123,8 @@ with_attr key bytes x = with_attrs x (entered attrs_limit key bytes x.attrs)
 
 -- the object without an attribute, which has to be there
 abbrev pub without_attr : List ℕ → Obj → Change
-without_attr key x = if is_none (fin.get x.attrs key) then Err NoData else with_attrs x (Ok (fin.remove x.attrs key))
+without_attr key x =
+    if is_none (fin.get x.attrs key) then Err NoData else with_attrs x (Ok (fin.remove x.attrs key))
 
 -- the object with this entry of its omap
 abbrev pub with_entry : List ℕ → List ℕ → Obj → Change
@@ -137,7 +144,8 @@ checked x = Ok Checked
 
 -- the version that is asked has to be the name's
 abbrev pub at_version : ℕ → ℕ → Telling
-at_version asked ver = if nat_lt asked ver then Err Range else if nat_lt ver asked then Err Overflow else Ok Checked
+at_version asked ver =
+    if nat_lt asked ver then Err Range else if nat_lt ver asked then Err Overflow else Ok Checked
 
 -- there has to be a value, and it has to be this one
 abbrev pub same_value : List ℕ → Option (List ℕ) → Telling

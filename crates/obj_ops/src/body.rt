@@ -1,88 +1,126 @@
-//! The sub-operations on a body, each of which changes it where it lies.
-ghost use Rattle.std.specs.Prelude.{◌≡◌, ◌≤◌, ◌+◌, IfOk, length, replicate};
+//! The sub-operations on the body of an object, each of which changes it where it lies. A refused
+//! one,
+//! and one without memory, leaves the object as it was.
+ghost use Rattle.std.specs.Prelude.{◌≡◌, ◌≤◌, ◌+◌, ◌++◌, IfOk, OnOk, OnErr, Ok, Some, length};
+ghost use Rattle.std.specs.Prelude.{replicate};
+ghost use Rattle.std.specs.Prelude.{vec_capacity};
 ghost use Rattle.obj_model.specs.Limits.{body_limit, number_limit};
-ghost use Rattle.obj_ops.specs.Effects.{made, resized, where_any, with_body, with_bytes, with_more, with_size, with_zeros, written, zeroed};
+ghost use Rattle.obj_ops.specs.Effects.{resized, with_body, with_bytes, with_more, with_size};
+ghost use Rattle.obj_ops.specs.Effects.{with_zeros, written, zeroed};
+ghost use Rattle.obj_ops.specs.Steps.{Lands};
 
-use crate::object::{Change, or_empty, too_big};
+use crate::object::{Done, too_big};
 use obj_model::{BODY_LIMIT, Bytes, NoMemory, Obj};
 use std::alloc::Global;
+use std::mem;
 
-// Gives the object this body, and makes it where it is absent.
-pub fn write_full(alloc: Global, bytes: &Bytes, obj: Option<Obj>) -> Result<Change, NoMemory>
-    ensures { IfOk result (λ r. r ≡ with_body bytes.now (made obj)) }
+// Takes the body out, and leaves an empty one.
+fn taken(alloc: Global, obj: &mut Obj) -> Vec<u8>
+    ensures taken { result.items ≡ obj.old.body }
+    ensures attrs { obj.new.attrs ≡ obj.old.attrs }
+    ensures omap { obj.new.omap ≡ obj.old.omap }
+{
+    mem::replace(&mut obj.body, Bytes::from_vec(Vec::new(alloc))).into_vec()
+}
+
+// Gives the object this body.
+pub fn write_full(alloc: Global, bytes: &Bytes, obj: &mut Obj) -> Result<Done, NoMemory>
+    ensures exact { IfOk result (λ done. Lands (with_body bytes.now obj.old) obj.old done obj.new) }
+    ensures refused { OnErr result (obj.new ≡ obj.old) }
 {
     let bytes = bytes.as_slice();
     let asked = bytes.len() as u64;
     if asked > BODY_LIMIT {
         return Ok(Err(too_big(BODY_LIMIT, asked)));
     }
-    let Obj { body, attrs, omap } = or_empty(alloc, obj);
-    let mut body = body.into_vec();
-    body.truncate(0);
-    body.extend_from_slice(bytes)?;
-    let body = Bytes::from_vec(body);
-    Ok(Ok(Some(Obj { body, attrs, omap })))
+    let body = Vec::from_slice(alloc, bytes)?;
+    obj.body = Bytes::from_vec(body);
+    Ok(Ok(()))
 }
 
-// Puts the bytes into the body, which is made where it is absent.
-pub fn write(alloc: Global, off: u64, bytes: &Bytes, obj: Option<Obj>) -> Result<Change, NoMemory>
+// Puts the bytes into the body.
+pub fn write(alloc: Global, off: u64, bytes: &Bytes, obj: &mut Obj) -> Result<Done, NoMemory>
     requires { off ≤ number_limit }
-    ensures { IfOk result (λ r. r ≡ with_bytes off bytes.now (made obj)) }
+    ensures exact { IfOk result
+        (λ done. Lands (with_bytes off bytes.now obj.old) obj.old done obj.new) }
+    ensures refused { OnErr result (obj.new ≡ obj.old) }
 {
     let bytes = bytes.as_slice();
     let asked = off + bytes.len() as u64;
     if asked > BODY_LIMIT {
         return Ok(Err(too_big(BODY_LIMIT, asked)));
     }
-    let Obj { body, attrs, omap } = or_empty(alloc, obj);
-    let body = Bytes::from_vec(overwrite(body.into_vec(), off as usize, bytes)?);
-    Ok(Ok(Some(Obj { body, attrs, omap })))
+    let mut body = taken(alloc, obj);
+    let done = overwrite(&mut body, off as usize, bytes);
+    obj.body = Bytes::from_vec(body);
+    match done {
+        Ok(()) => Ok(Ok(())),
+        Err(_) => Err(NoMemory),
+    }
 }
 
-// The body with these bytes at `off`. Only they, and a gap before them, are touched.
-fn overwrite(body: Vec<u8>, off: usize, bytes: &[u8]) -> Result<Vec<u8>, NoMemory>
+// Puts these bytes at `off`. Only they, and a gap before them, are touched.
+fn overwrite(body: &mut Vec<u8>, off: usize, bytes: &[u8]) -> Result<(), NoMemory>
     requires { off + length bytes.now ≤ body_limit }
-    ensures { IfOk result (λ b. b.items ≡ written off bytes.now body.items) }
+    ensures put { OnOk result (body.new.items ≡ written off bytes.now body.old.items) }
+    ensures refused { OnErr result (body.new.items ≡ body.old.items) }
 {
-    let mut body = body;
     if bytes.is_empty() {
-        return Ok(body);
+        return Ok(());
     }
     let end = off + bytes.len();
     if end <= body.len() {
         body.as_mut_slice()[off..end].copy_from_slice(bytes);
-    } else {
-        body.resize(off, 0)?;
-        body.extend_from_slice(bytes)?;
+        return Ok(());
     }
-    Ok(body)
+    body.reserve(end - body.len())?;
+    resize(body, off);
+    extend(body, bytes);
+    Ok(())
 }
 
-// Puts the bytes behind the body, which is made where it is absent.
-pub fn append(alloc: Global, bytes: &Bytes, obj: Option<Obj>) -> Result<Change, NoMemory>
-    ensures { IfOk result (λ r. r ≡ with_more bytes.now (made obj)) }
+// Gives a body this size, for which it has room.
+fn resize(body: &mut Vec<u8>, size: usize)
+    requires { size ≤ vec_capacity body.old }
+    ensures resized { body.new.items ≡ resized size body.old.items }
+    ensures room { vec_capacity body.old ≤ vec_capacity body.new }
+{
+    let _ = body.resize(size, 0);
+}
+
+// Puts bytes behind a body which has room for them.
+fn extend(body: &mut Vec<u8>, bytes: &[u8])
+    requires { length body.old.items + length bytes.now ≤ vec_capacity body.old }
+    ensures { body.new.items ≡ body.old.items ++ bytes.now }
+{
+    let _ = body.extend_from_slice(bytes);
+}
+
+// Puts the bytes behind the body.
+pub fn append(alloc: Global, bytes: &Bytes, obj: &mut Obj) -> Result<Done, NoMemory>
+    ensures exact { IfOk result (λ done. Lands (with_more bytes.now obj.old) obj.old done obj.new) }
+    ensures refused { OnErr result (obj.new ≡ obj.old) }
 {
     let bytes = bytes.as_slice();
-    let Obj { body, attrs, omap } = or_empty(alloc, obj);
-    let mut body = body.into_vec();
-    let asked = body.len() as u64 + bytes.len() as u64;
+    let asked = obj.body.as_slice().len() as u64 + bytes.len() as u64;
     if asked > BODY_LIMIT {
         return Ok(Err(too_big(BODY_LIMIT, asked)));
     }
-    body.extend_from_slice(bytes)?;
-    let body = Bytes::from_vec(body);
-    Ok(Ok(Some(Obj { body, attrs, omap })))
+    let mut body = taken(alloc, obj);
+    let done = body.extend_from_slice(bytes);
+    obj.body = Bytes::from_vec(body);
+    match done {
+        Ok(()) => Ok(Ok(())),
+        Err(_) => Err(NoMemory),
+    }
 }
 
-// Makes a part of the body zero, where there is one.
-pub fn zero(off: u64, len: u64, obj: Option<Obj>) -> Change
-    ensures { result ≡ where_any (with_zeros off len) obj }
+// Makes a part of the body zero.
+pub fn zero(alloc: Global, off: u64, len: u64, obj: &mut Obj)
+    ensures { with_zeros off len obj.old ≡ Ok (Some obj.new) }
 {
-    let Some(Obj { body, attrs, omap }) = obj else {
-        return Ok(None);
-    };
-    let body = Bytes::from_vec(clear(body.into_vec(), off, len));
-    Ok(Some(Obj { body, attrs, omap }))
+    let body = taken(alloc, obj);
+    obj.body = Bytes::from_vec(clear(body, off, len));
 }
 
 // The body with zeros from `off` to `off + len`, as far as it goes.
@@ -104,18 +142,19 @@ fn fill(bytes: &mut [u8])
     bytes.fill(0);
 }
 
-// Cuts the body to a size or fills it up with zeros, where there is one.
-pub fn truncate(size: u64, obj: Option<Obj>) -> Result<Change, NoMemory>
-    ensures { IfOk result (λ r. r ≡ where_any (with_size size) obj) }
+// Cuts the body to a size or fills it up with zeros.
+pub fn truncate(alloc: Global, size: u64, obj: &mut Obj) -> Result<Done, NoMemory>
+    ensures exact { IfOk result (λ done. Lands (with_size size obj.old) obj.old done obj.new) }
+    ensures refused { OnErr result (obj.new ≡ obj.old) }
 {
-    let Some(Obj { body, attrs, omap }) = obj else {
-        return Ok(Ok(None));
-    };
     if size > BODY_LIMIT {
         return Ok(Err(too_big(BODY_LIMIT, size)));
     }
-    let mut body = body.into_vec();
-    body.resize(size as usize, 0)?;
-    let body = Bytes::from_vec(body);
-    Ok(Ok(Some(Obj { body, attrs, omap })))
+    let mut body = taken(alloc, obj);
+    let done = body.resize(size as usize, 0);
+    obj.body = Bytes::from_vec(body);
+    match done {
+        Ok(()) => Ok(Ok(())),
+        Err(_) => Err(NoMemory),
+    }
 }

@@ -1,42 +1,35 @@
 //! Objects as wholes: made where they are absent, and taken away.
 ghost use Rattle.std.specs.Prelude.{◌≡◌};
 ghost use Rattle.obj_model.specs.declared.reply.Why.TheVariants.{TooBig};
-ghost use Rattle.obj_ops.specs.Effects.{created, empty_obj, made, removed, where_there};
+ghost use Rattle.obj_ops.specs.Effects.{created, empty_obj, removed, where_there};
+ghost use Rattle.obj_ops.specs.Steps.{LandsOn};
 
 use obj_model::{Bytes, Obj, PairMap, Why};
 use std::alloc::Global;
 
-/// The object that a sub-operation leaves, if it leaves one, or why it is refused.
-pub type Change = Result<Option<Obj>, Why>;
+/// What came of a sub-operation: it was done, or why it is refused.
+pub type Done = Result<(), Why>;
 
 // An empty object, where there was none.
-pub fn create(alloc: Global, obj: Option<Obj>) -> Change
-    ensures { result ≡ created obj }
+pub fn create(alloc: Global, obj: &mut Option<Obj>) -> Done
+    ensures { LandsOn (created obj.old) obj.old result obj.new }
 {
-    match obj {
-        None => Ok(Some(empty(alloc))),
-        Some(_) => Err(Why::Exists),
+    if obj.is_some() {
+        return Err(Why::Exists);
     }
+    *obj = Some(empty(alloc));
+    Ok(())
 }
 
 // No object, where there was one.
-pub fn remove(obj: Option<Obj>) -> Change
-    ensures { result ≡ where_there removed obj }
+pub fn remove(obj: &mut Option<Obj>) -> Done
+    ensures { LandsOn (where_there removed obj.old) obj.old result obj.new }
 {
-    match obj {
-        None => Err(Why::NoEnt),
-        Some(_) => Ok(None),
+    if obj.is_none() {
+        return Err(Why::NoEnt);
     }
-}
-
-// The object, or an empty one where there is none.
-pub fn or_empty(alloc: Global, obj: Option<Obj>) -> Obj
-    ensures { result ≡ made obj }
-{
-    match obj {
-        None => empty(alloc),
-        Some(obj) => obj,
-    }
+    *obj = None;
+    Ok(())
 }
 
 // An object without bytes and pairs.

@@ -1,47 +1,38 @@
 //! The sub-operations on an omap.
-ghost use Rattle.std.specs.Prelude.{◌≡◌, IfOk, Ok};
+ghost use Rattle.std.specs.Prelude.{◌≡◌, IfOk, OnErr, Ok, Some};
 ghost use Rattle.std.specs.Option.{option_copied};
 ghost use Rattle.std.specs.FinMap as fin;
 ghost use Rattle.obj_model.specs.declared.out.Out.TheVariants.{Pairs};
-ghost use Rattle.obj_ops.specs.Effects.{made, page, the_value, where_there, with_entry, without_entries, without_entry};
+ghost use Rattle.obj_ops.specs.Effects.{page, the_value, where_there, with_entry, without_entries};
+ghost use Rattle.obj_ops.specs.Effects.{without_entry};
+ghost use Rattle.obj_ops.specs.Steps.{Lands};
 
-use crate::object::{Change, or_empty};
+use crate::object::Done;
 use crate::table::{enter, value_of};
 use obj_model::{Bytes, Name, NoMemory, OMAP_LIMIT, Obj, Out, Pair, PairList, PairMap, Why};
 use std::alloc::Global;
 
-// Gives an entry this value, and makes the object where it is absent.
-pub fn set(alloc: Global, key: &Name, bytes: &Bytes, obj: Option<Obj>) -> Result<Change, NoMemory>
-    ensures { IfOk result (λ r. r ≡ with_entry key.now bytes.now (made obj)) }
+// Gives an entry this value.
+pub fn set(key: &Name, bytes: &Bytes, obj: &mut Obj) -> Result<Done, NoMemory>
+    ensures exact { IfOk result
+        (λ done. Lands (with_entry key.now bytes.now obj.old) obj.old done obj.new) }
+    ensures refused { OnErr result (obj.new ≡ obj.old) }
 {
-    let Obj { body, attrs, omap } = or_empty(alloc, obj);
-    match enter(OMAP_LIMIT, key, bytes, omap)? {
-        Ok(omap) => Ok(Ok(Some(Obj { body, attrs, omap }))),
-        Err(why) => Ok(Err(why)),
-    }
+    enter(OMAP_LIMIT, key, bytes, &mut obj.omap)
 }
 
 // Takes an entry away, if it is there.
-pub fn remove(key: &Name, obj: Option<Obj>) -> Change
-    ensures { result ≡ where_there (without_entry key.now) obj }
+pub fn remove(key: &Name, obj: &mut Obj)
+    ensures { without_entry key.now obj.old ≡ Ok (Some obj.new) }
 {
-    let Some(Obj { body, attrs, omap }) = obj else {
-        return Err(Why::NoEnt);
-    };
-    let mut omap = omap;
-    let _ = omap.remove(key);
-    Ok(Some(Obj { body, attrs, omap }))
+    let _ = obj.omap.remove(key);
 }
 
 // Takes all entries away.
-pub fn clear(alloc: Global, obj: Option<Obj>) -> Change
-    ensures { result ≡ where_there without_entries obj }
+pub fn clear(alloc: Global, obj: &mut Obj)
+    ensures { without_entries obj.old ≡ Ok (Some obj.new) }
 {
-    let Some(Obj { body, attrs, .. }) = obj else {
-        return Err(Why::NoEnt);
-    };
-    let omap = PairMap::new(alloc);
-    Ok(Some(Obj { body, attrs, omap }))
+    obj.omap = PairMap::new(alloc);
 }
 
 // Tells the value of an entry, which has to be there.
@@ -61,7 +52,8 @@ pub fn list(
     max: u64,
     obj: &Option<Obj>,
 ) -> Result<Result<Out, Why>, NoMemory>
-    ensures { IfOk result (λ r. r ≡ where_there (λ x. Ok (Pairs (page after.now max x.omap))) obj.now) }
+    ensures { IfOk result (λ r. r
+        ≡ where_there (λ x. Ok (Pairs (page after.now max x.omap))) obj.now) }
 {
     let Some(obj) = obj else {
         return Ok(Err(Why::NoEnt));

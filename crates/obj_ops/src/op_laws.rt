@@ -1,5 +1,7 @@
-//! What follows from the table of sub-operations, in plain words. These calls do nothing: their contracts are the laws.
-ghost use Rattle.obj_ops.specs.OpLaws.{AppendsJoin, FirstRefusalRefuses, LookersChangeNothing, RemovalTakesAll, TablesSurvive, WrittenIsRead};
+//! What follows from the table of sub-operations, in plain words. These calls do nothing: their
+//! contracts are the laws.
+ghost use Rattle.obj_ops.specs.OpLaws.{AppendsJoin, FirstRefusalRefuses, LookersChangeNothing};
+ghost use Rattle.obj_ops.specs.OpLaws.{RemovalTakesAll, TablesSurvive, WrittenIsRead};
 
 use obj_model::{Bytes, OpList, SubOp};
 
@@ -9,7 +11,8 @@ pub fn lookers_change_nothing(_op: &SubOp)
     ensures { LookersChangeNothing _op.now }
 {}
 
-/// A vector of which one step is refused is refused as a whole, with that place, whatever stands before the step and
+/// A vector of which one step is refused is refused as a whole, with that place, whatever stands
+/// before the step and
 /// behind it. Then the object is as it was.
 #[tactic(auto, using(crate::proofs::OpLaws::first_refusal))]
 pub fn first_refusal_refuses(_front: &OpList, _op: &SubOp, _behind: &OpList)

@@ -1,33 +1,30 @@
 //! An object's tables: one lookup puts a value in, and the limits come before it.
-ghost use Rattle.std.specs.Prelude.{◌≡◌, ◌≤◌, IfOk};
+ghost use Rattle.std.specs.Prelude.{◌≡◌, ◌≤◌, IfOk, OnErr};
 ghost use Rattle.std.specs.Option.{option_copied};
 ghost use Rattle.obj_model.specs.Limits.{omap_limit};
 ghost use Rattle.obj_ops.specs.Effects.{entered, the_value};
+ghost use Rattle.obj_ops.specs.Steps.{Enters};
 
-use crate::object::too_big;
+use crate::object::{Done, too_big};
 use obj_model::{Bytes, Name, NoMemory, Out, PairMap, VALUE_LIMIT, Why};
 use std::alloc::Global;
 
-// The table with this value at a key. A new key needs room among so many.
-pub fn enter(
-    most: u64,
-    key: &Name,
-    bytes: &Bytes,
-    table: PairMap,
-) -> Result<Result<PairMap, Why>, NoMemory>
+// Gives a key this value. A new key needs room among so many.
+pub fn enter(most: u64, key: &Name, bytes: &Bytes, table: &mut PairMap) -> Result<Done, NoMemory>
     requires { most ≤ omap_limit }
-    ensures { IfOk result (λ r. r ≡ entered most key.now bytes.now table) }
+    ensures exact { IfOk result
+        (λ done. Enters (entered most key.now bytes.now table.old) table.old done table.new) }
+    ensures refused { OnErr result (table.new ≡ table.old) }
 {
     let asked = bytes.as_slice().len() as u64;
     if asked > VALUE_LIMIT {
         return Ok(Err(too_big(VALUE_LIMIT, asked)));
     }
-    let mut table = table;
     if most <= table.len() as u64 && table.get(key).is_none() {
         return Ok(Err(too_big(most, most + 1)));
     }
     table.insert(key.copy()?, bytes.clone()?)?;
-    Ok(Ok(table))
+    Ok(Ok(()))
 }
 
 // A copy of a value, which has to be there.

@@ -1,7 +1,7 @@
 //! Requests one after another on one name.
-use crate::tools::{name, number, row, show_out, show_why, vector};
+use crate::tools::{name, number, row, show_obj, show_out, show_why, vector};
 use obj_model::{Kept, KeptList, NameState, Reply, Req};
-use obj_ops::{Acted, Looked, act, look};
+use obj_ops::{Acted, Answered, Looked, act, act_on, look};
 use std::alloc::Global;
 use std::fmt::Write;
 use std::test::Fail;
@@ -44,7 +44,50 @@ fn looked(alloc: Global, state: &NameState, text: &str) -> Result<String, Fail> 
     Ok(shown)
 }
 
-// What a request of client 7 is answered, and the state after it.
+// What a request did, in the words of an answer.
+fn show_answer(alloc: Global, answer: Answered) -> Result<String, Fail> {
+    let mut shown = String::new(alloc);
+    match answer {
+        Answered::Fresh { reply } => show_reply(&mut shown, reply)?,
+        Answered::Again { reply } => {
+            show_reply(&mut shown, reply)?;
+            shown.push_str(" kept")?;
+        }
+        Answered::Stale { kept } => write!(&mut shown, "stale {kept}")?,
+        Answered::Worn { limit } => write!(&mut shown, "worn {limit}")?,
+    }
+    Ok(shown)
+}
+
+// The counts, the object and the kept requests of a state.
+fn show_state(alloc: Global, state: &NameState) -> Result<String, Fail> {
+    let obj = show_obj(alloc, &state.obj)?;
+    let mut text = format!(in alloc; "v{} @{} {obj}", state.ver, state.seq)?;
+    for kept in state.seen.as_slice() {
+        write!(&mut text, " {}:{} ", kept.client, kept.tid)?;
+        show_reply(&mut text, kept.reply)?;
+    }
+    Ok(text)
+}
+
+// What a request on a state that stays is answered, and the state after it.
+fn after_act(alloc: Global, state: &NameState, req: &Req) -> Result<(NameState, Answered), Fail> {
+    if !req.vector.writes() || state.ver > state.seq || state.seq > MOST || req.client != 7 {
+        return Err("a request".into());
+    }
+    match act(alloc, state, req).ok().ok_or("memory")? {
+        Acted::Fresh { state, reply } => Ok((state, Answered::Fresh { reply })),
+        Acted::Again { reply } => Ok((
+            state.copy().ok().ok_or("memory")?,
+            Answered::Again { reply },
+        )),
+        Acted::Stale { kept } => Ok((state.copy().ok().ok_or("memory")?, Answered::Stale { kept })),
+        Acted::Worn { limit } => Ok((state.copy().ok().ok_or("memory")?, Answered::Worn { limit })),
+    }
+}
+
+// What a request of client 7 is answered, and the state after it: the same on a state that stays
+// and on one that is changed where it lies.
 fn acted(
     alloc: Global,
     state: NameState,
@@ -52,9 +95,6 @@ fn acted(
     text: &str,
 ) -> Result<(NameState, String), Fail> {
     let vector = vector(alloc, text)?;
-    if !vector.writes() || state.ver > state.seq || state.seq > MOST {
-        return Err("a request".into());
-    }
     let name = name(alloc, "a")?;
     let req = Req {
         client: 7,
@@ -62,20 +102,16 @@ fn acted(
         name,
         vector,
     };
-    let mut shown = String::new(alloc);
-    match act(alloc, &state, &req).ok().ok_or("memory")? {
-        Acted::Fresh { state, reply } => {
-            show_reply(&mut shown, reply)?;
-            return Ok((state, shown));
-        }
-        Acted::Again { reply } => {
-            show_reply(&mut shown, reply)?;
-            shown.push_str(" kept")?;
-        }
-        Acted::Stale { kept } => write!(&mut shown, "stale {kept}")?,
-        Acted::Worn { limit } => write!(&mut shown, "worn {limit}")?,
+    let (after, answer) = after_act(alloc, &state, &req)?;
+    let mut state = state;
+    if !req.vector.writes() || state.ver > state.seq || state.seq > MOST {
+        return Err("a request".into());
     }
-    Ok((state, shown))
+    let same = act_on(alloc, &mut state, &req).ok().ok_or("memory")?;
+    if same != answer || show_state(alloc, &state)? != show_state(alloc, &after)? {
+        return Err("two ways with two ends".into());
+    }
+    Ok((state, show_answer(alloc, answer)?))
 }
 
 // A tid, or 0 for a reading; the vector; the answer. A blank line begins anew.

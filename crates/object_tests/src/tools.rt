@@ -142,7 +142,7 @@ pub fn vector(alloc: Global, text: &str) -> Result<Vector, Fail> {
 }
 
 // Bytes as they stand, with points for the byte 0; many are told by their number.
-fn show_bytes(text: &mut String, bytes: &[u8]) -> Result<(), Fail> {
+pub fn show_bytes(text: &mut String, bytes: &[u8]) -> Result<(), Fail> {
     if bytes.len() > 40 {
         write!(text, "#{}", bytes.len())?;
         return Ok(());

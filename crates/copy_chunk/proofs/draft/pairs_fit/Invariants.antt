@@ -5,4 +5,6 @@ use Rattle.copy_chunk.proofs.draft.pairs_fit.Given as goal
 
 -- what is left decides
 abbrev pub invariant-loop-pair : goal.invariant-loop-pair
-invariant-loop-pair l = pairs_fit (option_copied l.before) (drop l.pair-index l.pairs) ≡ pairs_fit (option_copied l.last) l.pairs
+invariant-loop-pair l =
+    pairs_fit (option_copied l.before) (drop l.pair-index l.pairs)
+    ≡ pairs_fit (option_copied l.last) l.pairs

@@ -1,4 +1,4 @@
-use Rattle.std.proofs.Common.{◌≡◌, ◌+◌, ◌≤◌, ◌^◌, ◌-◌, take}
+use Rattle.std.proofs.Common.{◌≡◌, ◌≤◌, ◌^◌, ◌-◌, take}
 use Rattle.tier_outside.specs.DiskMoments.{Now}
 use Rattle.gate_journal.specs.Journals.{AreRecords}
 use Rattle.gate_journal.proofs.reading.walk.Given as goal
@@ -9,7 +9,8 @@ invariant-loop-payloads g l = record {
   later : g.D.Disk.faults l.fn.disk ≤ g.D.Disk.faults l.disk;
   order : l.at ≤ l.next;
   below : l.next ≤ 2 ^ 41;
-  records : Now (g.D.Disk.moments l.fn.disk) (λ d. AreRecords (take l.limit d.content) l.at l.payloads l.next);
+  records : Now (g.D.Disk.moments l.fn.disk)
+      (λ d. AreRecords (take l.limit d.content) l.at l.payloads l.next);
 }
 
 abbrev pub decreases-loop-payloads : goal.decreases-loop-payloads

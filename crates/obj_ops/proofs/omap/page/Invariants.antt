@@ -8,5 +8,6 @@ use Rattle.obj_ops.proofs.omap.page.Given as goal
 abbrev pub invariant-loop-key : goal.invariant-loop-key
 invariant-loop-key l = record {
   few : length l.pairs.items ≤ l.max;
-  all : l.pairs.items ++ map pair_of l.key-iterator ≡ map pair_of (entries_above (option_copied l.after) l.omap);
+  all : l.pairs.items ++ map pair_of l.key-iterator
+      ≡ map pair_of (entries_above (option_copied l.after) l.omap);
 }

@@ -7,5 +7,6 @@ use Rattle.obj_ops.proofs.run.run_copy.Given as goal
 abbrev pub invariant-loop-op : goal.invariant-loop-op
 invariant-loop-op l = record {
   place : l.at ≡ l.from + l.op-index;
-  same : ran_of (run_from l.at l.ver (drop l.op-index l.ops) l.copy) ≡ ran_of (run_from l.from l.ver l.ops l.obj);
+  same : ran_of (run_from l.at l.ver (drop l.op-index l.ops) l.copy)
+      ≡ ran_of (run_from l.from l.ver l.ops l.obj);
 }

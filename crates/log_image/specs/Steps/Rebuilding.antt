@@ -1,10 +1,12 @@
 -- How a map is made of the payloads of a journal.
-use Rattle.std.specs.Prelude.{◌≡◌, ◌⊎◌, ℕ, ◌+◌, ◌-◌, ◌^◌, List, [], ◌∷◌, ◌++◌, length, min, Result, Ok, Err}
+use Rattle.std.specs.Prelude.{◌≡◌, ◌⊎◌, ℕ, ◌+◌, ◌-◌, ◌^◌, List, [], ◌∷◌, ◌++◌, length, min, Result}
+use Rattle.std.specs.Prelude.{Ok, Err}
 use Rattle.std.specs.FinMap as fin
 use Rattle.obj_model.specs.declared.change.Change.{Change}
 use Rattle.store_face.specs.Tables.{changed_by}
 use Rattle.store_face.specs.declared.fault.StoreFault.{StoreFault}
-use Rattle.store_face.specs.declared.fault.StoreFault.TheVariants.{Disk, BadImage, NoSpace, Worn, NoMemory}
+use Rattle.store_face.specs.declared.fault.StoreFault.TheVariants.{Disk, BadImage, NoSpace, Worn}
+use Rattle.store_face.specs.declared.fault.StoreFault.TheVariants.{NoMemory}
 use Rattle.rec_codec.specs.Spelling.{SpellsTxn}
 use Rattle.pool_map.specs.Pools.{PoolView, at_rest}
 use Rattle.log_image.specs.Images.{AreTxns, made_by}
@@ -20,8 +22,10 @@ told at = min at (2 ^ 64 - 1)
 
 -- a payload that is a transaction was carried out; or it is none, which is told at its offset
 abbrev pub ReplayEnds : List ℕ → ℕ → PoolView → PoolView → Result (Unit {0}) StoreFault → Type 0
-ReplayEnds payload at old new (Ok done) = (txn : List Change) × SpellsTxn payload txn × (new ≡ at_rest (changed_by old.table txn))
-ReplayEnds payload at old new (Err (BadImage place)) = (place ≡ at) × ((txn : List Change) → ¬ SpellsTxn payload txn)
+ReplayEnds payload at old new (Ok done) =
+    (txn : List Change) × SpellsTxn payload txn × (new ≡ at_rest (changed_by old.table txn))
+ReplayEnds payload at old new (Err (BadImage place)) =
+    (place ≡ at) × ((txn : List Change) → ¬ SpellsTxn payload txn)
 ReplayEnds payload at old new (Err NoMemory) = Unit {0}
 ReplayEnds payload at old new (Err Disk) = ⊥
 ReplayEnds payload at old new (Err (NoSpace used need limit)) = ⊥

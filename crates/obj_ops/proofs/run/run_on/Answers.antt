@@ -1,0 +1,7 @@
+use Rattle.obj_ops.proofs.Runs.{vector_rest}
+use Rattle.obj_ops.proofs.run.run_on.Goals as goal
+
+pub run_rest-requires-clause-steps : goal.run_rest-requires-clause-steps
+run_rest-requires-clause-steps c =
+    vector_rest c.in-Ok.from c.args.vector.now c.ops-ops.result.now _ c.ops-ops.ensures.value
+    c.split_at.ensures.back c.ops-ops.ensures.lawful c.requires
