@@ -1,11 +1,10 @@
 -- A text reads as a line exactly where it is the line's spelling, and the line may stand there.
-use Rattle.std.proofs.Common.{◌≡◌, ℕ, ◌≤◌, ◌^◌, ◌&&◌, nat_le, not, Bool, true, false, List, [], ◌∷◌, ◌++◌, append-nil, Option, Some, None, Result, Ok, Err, if◌then◌else◌, refl, sym, ap, ◌∙◌, arith, bytes_eq, codes, decimal}
+use Rattle.std.proofs.Common.{◌≡◌, ℕ, ◌≤◌, ◌^◌, ◌&&◌, nat_le, not, Bool, true, false, List, [], ◌∷◌, ◌++◌, append-nil, Some, Ok, Err, if◌then◌else◌, refl, sym, ap, ◌∙◌, arith, bytes_eq, codes, decimal}
 use Rattle.std.specs.List.{join_with_byte, list_any}
 use Rattle.std.specs.Cmp.Lexicographic.{bytes_decides}
 use Rattle.std.proofs.lemmas.Bool.{and_parts}
 use Rattle.std.proofs.lemmas.Bool.Decides.{nat_tests}
 use Rattle.std.proofs.lemmas.List.Elements.{recursion_from_All}
-use Rattle.obj_model.specs.Names.{name_fault}
 use Rattle.obj_model.specs.SubOps.{is_write}
 use Rattle.obj_model.specs.declared.tier.Mode.{Mode}
 use Rattle.obj_model.specs.declared.tier.Mode.TheVariants as mode
@@ -18,7 +17,7 @@ use Rattle.script_lang.specs.declared.verbs.LineVerb.TheVariants as verb
 use Rattle.script_lang.specs.Contexts.{Context, IsInTime, MayStand, is_in_place}
 use Rattle.script_lang.specs.Spelling.{IsClient, IsLine, IsName, IsOp, Says, line_words, mode_word, spelling, vector_words}
 use Rattle.script_lang.specs.Verbs.{line_verb_among, line_verb_of, line_verbs, line_word}
-use Rattle.script_lang.specs.Reading.{◌>>=◌, begin_by, by_word, client_at, client_of, ended, get_line, is_odd_byte, line_at, line_by, line_from, line_name_at, line_number_at, line_of, mode_line, mode_of, moment_of, name_line, name_of, number_of, op_line, or_cause, placed, rest_of, stop_by, time_line, unknown, unknown_mode, vector_of, word_at, words_of}
+use Rattle.script_lang.specs.Reading.{◌>>=◌, begin_by, by_word, client_at, client_of, ended, get_line, is_odd_byte, line_at, line_by, line_from, line_name_at, line_number_at, line_of, mode_line, mode_of, moment_of, name_line, name_of, number_of, op_line, or_cause, placed, rest_of, stop_by, time_line, unknown, vector_of, word_at, words_of}
 use Rattle.script_lang.proofs.Options.{bind_ok, by_word_ok, fit_ok, only_if_ok, or_cause_ok}
 use Rattle.script_lang.proofs.Joined.{IsWord, IsWords, joined-words_of, joined_is_even, literal_is_word, word_at-word, words_of-joined}
 use Rattle.script_lang.proofs.Numbers.{decimal_is_word, number_of-decimal, number_of-sound}

@@ -9,7 +9,7 @@ use Rattle.script_lang.specs.declared.line.Numbered.{Numbered}
 use Rattle.script_lang.specs.Contexts.{Context, moved, start}
 use Rattle.script_lang.specs.Outcomes.{Advances, Halts, Outcome, Shows, behind, outcome}
 use Rattle.script_lang.specs.Reading.{line_of}
-use Rattle.script_lang.specs.Scripts.{Explains, IsFault, IsScript, is_passed, lines_of}
+use Rattle.script_lang.specs.Scripts.{Explains, IsScript, is_passed, lines_of}
 use Rattle.script_lang.proofs.Texts.{IsFirstWrong-from_outcome, outcome-sound}
 
 -- ---- one line

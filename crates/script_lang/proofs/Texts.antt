@@ -1,12 +1,12 @@
 -- The outcome of reading lines is what a script is, and what its fault is.
-use Rattle.std.proofs.Common.{◌≡◌, ℕ, zero, suc, ◌+◌, ◌≤◌, Bool, true, false, MatchBool, List, [], ◌∷◌, ◌++◌, length, drop, nat_lt, Result, Ok, Err, if◌then◌else◌, refl, sym, ap, ◌∙◌, subst, arith}
+use Rattle.std.proofs.Common.{◌≡◌, ℕ, zero, suc, ◌+◌, Bool, true, false, MatchBool, List, [], ◌∷◌, length, drop, nat_lt, Result, Ok, Err, if◌then◌else◌, refl, sym, ap, ◌∙◌, subst, arith}
 use Rattle.std.proofs.lemmas.Bool.Decides.{nat_tests}
 use Rattle.script_lang.specs.declared.cause.Cause.{Cause}
 use Rattle.script_lang.specs.declared.cause.Cause.TheVariants.{Long, Lines}
 use Rattle.script_lang.specs.declared.line.Line.{Line}
 use Rattle.script_lang.specs.declared.line.Numbered.{Numbered}
 use Rattle.script_lang.specs.Contexts.{Context, moved, start}
-use Rattle.script_lang.specs.Scripts.{IsFault, IsFirstWrong, IsWhole, Reads, SaysFirst, is_passed, lines_of}
+use Rattle.script_lang.specs.Scripts.{IsFirstWrong, IsWhole, Reads, SaysFirst, is_passed, lines_of}
 use Rattle.script_lang.specs.Laws.{ReadingIsOne, ScriptHasNoFault, FaultIsOne}
 use Rattle.script_lang.specs.Outcomes.{Outcome, behind, outcome, told}
 use Rattle.script_lang.specs.Reading.{line_of}

@@ -1,5 +1,5 @@
 -- Reading sub-operations one after another.
-use Rattle.std.proofs.Common.{◌≡◌, ℕ, zero, suc, ◌<◌, ◌≤◌, true, false, List, [], ◌∷◌, ◌++◌, length, Option, Some, None, Result, Ok, Err, is_err, refl, sym, ap, ◌∙◌, arith, bytes_eq, codes, append_assoc, length-append}
+use Rattle.std.proofs.Common.{◌≡◌, ℕ, zero, suc, ◌<◌, ◌≤◌, true, false, List, [], ◌∷◌, ◌++◌, length, Some, None, Result, Ok, Err, is_err, refl, sym, ap, ◌∙◌, arith, bytes_eq, codes, append_assoc, length-append}
 use Rattle.obj_model.specs.declared.sub_op.SubOp.{SubOp}
 use Rattle.script_lang.specs.Spelling.{op_words}
 use Rattle.script_lang.specs.Reading.{TakenOp, op_at, ops_within, ops_of, put_first, first_of, rest_of}

@@ -1,5 +1,5 @@
 -- What a script is, and the fault of a text that is none.
-use Rattle.std.specs.Prelude.{◌≡◌, ◌≤◌, ℕ, zero, suc, ◌+◌, Bool, true, false, List, [], ◌∷◌, length, drop, Result, Err, if◌then◌else◌, ◌==◌, nat_lt, MatchBool}
+use Rattle.std.specs.Prelude.{◌≡◌, ◌≤◌, ℕ, zero, suc, ◌+◌, Bool, true, false, List, [], ◌∷◌, length, drop, Err, if◌then◌else◌, ◌==◌, nat_lt, MatchBool}
 use Rattle.script_lang.specs.declared.line.Numbered.{Numbered}
 use Rattle.script_lang.specs.declared.cause.Cause.{Cause}
 use Rattle.script_lang.specs.declared.cause.Cause.TheVariants.{Long, Lines}
