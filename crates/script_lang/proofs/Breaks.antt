@@ -60,7 +60,7 @@ pub words_without_space : (text : List ℕ) → position (λ b. b == 0x20) text 
 words_without_space text h = slice_split_none (λ b. b == 0x20) text (free_from_position _ text h)
 
 -- the lines of a text: its first line, and the lines behind the newline
-lines_by_parts : (line rest : List ℕ) (b : ℕ) → All (λ x. (x == 0x0a) ≡ false) line → (b == 0x0a) ≡ true
+pub lines_by_parts : (line rest : List ℕ) (b : ℕ) → All (λ x. (x == 0x0a) ≡ false) line → (b == 0x0a) ≡ true
     → lines_of (line ++ b ∷ rest) ≡ line ∷ lines_of rest
 lines_by_parts [] rest b free is = rw is refl
 lines_by_parts (x ∷ line) rest b free is =
@@ -69,7 +69,7 @@ lines_by_parts (x ∷ line) rest b free is =
     rw (first, more) refl
 
 -- a text without a newline is one line, if it has a byte
-line_alone : (b : ℕ) (line : List ℕ) → All (λ x. (x == 0x0a) ≡ false) (b ∷ line) → lines_of (b ∷ line) ≡ (b ∷ line) ∷ []
+pub line_alone : (b : ℕ) (line : List ℕ) → All (λ x. (x == 0x0a) ≡ false) (b ∷ line) → lines_of (b ∷ line) ≡ (b ∷ line) ∷ []
 line_alone b [] free =
     let first : (b == 0x0a) ≡ false = All-head (λ (x : ℕ). (x == 0x0a) ≡ false) b [] free in
     rw first refl

@@ -87,7 +87,7 @@ words_of-joined word (next ∷ words) h =
 pub joined-words_of : (text : List ℕ) → join_with_byte 0x20 (words_of text) ≡ text
 joined-words_of text = join_with_byte-slice_split 0x20 text
 
-or_parts : (a b : Bool) → (a || b) ≡ false → (a ≡ false) × (b ≡ false)
+pub or_parts : (a b : Bool) → (a || b) ≡ false → (a ≡ false) × (b ≡ false)
 or_parts false false h = (refl, refl)
 or_parts false true h = cc h
 or_parts true b h = cc h

@@ -377,7 +377,7 @@ mode_of-word mode.Readproxy = refl
 mode_of-word mode.Proxy = refl
 
 -- the words behind the verb of a lawful line
-line_is_words : (said : Line) → IsLine said → IsWords (line_words said)
+pub line_is_words : (said : Line) → IsLine said → IsWords (line_words said)
 line_is_words (line.Op req) h =
     let high = h.0.client_lawful.high in (
       verb_is_word verb.Op,

@@ -4,5 +4,4 @@ pub mod Printing
 pub mod Contexts
 pub mod Reading
 pub mod Scripts
-pub mod Laws
 pub mod Outcomes

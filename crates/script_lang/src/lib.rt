@@ -4,13 +4,12 @@
 //! earlier one, and a block has requests and readings of at most 16 clients and an end.
 //! `read_script` gives lines exactly where the text is their spellings, each where it may stand, and
 //! else the first line that is none, with its cause. A text has at most one reading and at most one
-//! fault, and never both.
+//! fault, and never both (`script_laws`).
 #![tactic(auto)]
 
 mod cause;
 mod context;
 mod fields;
-mod laws;
 mod left_out;
 mod line;
 mod lines;
@@ -25,7 +24,6 @@ mod verbs;
 mod words;
 
 pub use cause::{Cause, ScriptFault};
-pub use laws::{fault_is_one, reading_is_one, script_has_no_fault};
 pub use line::{Line, Numbered};
 pub use print::{mode_word, print_line};
 pub use read::{LENGTH_LIMIT, LINES_LIMIT, read_script};
