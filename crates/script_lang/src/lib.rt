@@ -2,9 +2,10 @@
 //!
 //! The grammar is the spelling of each line, beside where a line may stand: no moment is below an
 //! earlier one, and a block has requests and readings of at most 16 clients and an end.
-//! `read_script` gives lines exactly where the text is their spellings, each where it may stand, and
-//! else the first line that is none, with its cause. A text has at most one reading and at most one
-//! fault, and never both (`script_laws`).
+//! `read_script` gives lines exactly where the text is their spellings, each where it may stand,
+//! and else the first line that is none, with its cause. `print_line` puts the spelling of a line.
+//! `script_laws` has what follows: a text has one reading or one fault, and what is printed is read
+//! back.
 #![tactic(auto)]
 
 mod cause;
@@ -28,3 +29,4 @@ pub use line::{Line, Numbered};
 pub use print::{mode_word, print_line};
 pub use read::{LENGTH_LIMIT, LINES_LIMIT, read_script};
 pub use text::Text;
+pub use verbs::{LineVerb, OpVerb};

@@ -11,7 +11,7 @@ use Rattle.script_lang.specs.Scripts.{Reads, is_passed, lines_of}
 use Rattle.script_lang.specs.Spelling.{IsLine, line_words, spelling}
 use Rattle.script_lang.proofs.Breaks.{line_alone, lines_by_parts}
 use Rattle.script_lang.proofs.Joined.{joined_is_even, or_parts}
-use Rattle.script_lang.proofs.Spelled.{line_is_words}
+use Rattle.script_laws.proofs.ReadLines.{line_is_words}
 use Rattle.script_laws.specs.Printed.{BlockIsReadBack, IsNoBreak, LineIsReadBack, MayFollow, ScriptIsReadBack, numbered, printed}
 use Rattle.script_laws.proofs.Widths.{spelling_width}
 

@@ -105,7 +105,8 @@ op_width o h =
     let few = form.few in
     let short = form.short in
     let behind = fields_width (fields o) h in
-    let both = length-append (spaced (op_word (verb_of o))) (all_spaced (map field_word (fields o))) in
+    let both =
+    length-append (spaced (op_word (verb_of o))) (all_spaced (map field_word (fields o))) in
     omega arith
 
 others_width : (ops : List SubOp) → AllByRecursion IsOp ops
@@ -148,7 +149,7 @@ vector_width : (ops : List SubOp) → AllByRecursion IsOp ops → vector_fault o
     → length (ops_text ops) ≤ 33555360
 vector_width ops spelled h =
     let parts = vector_by_tests (length ops == 0) _ _ (length ops) (payload_of ops) (far_place ops)
-        (mixed_place ops) refl refl h in
+    (mixed_place ops) refl refl h in
     let few = parts.0 in
     let light = parts.1 in
     let width = ops_width ops spelled in

@@ -1,5 +1,5 @@
-//! Scripts that were worked out by hand: what they say, their faults, and how lines are printed. The
-//! promises themselves are proved.
+//! Scripts that were worked out by hand: what they say, their faults, and how lines are printed.
+//! The promises themselves are proved.
 #![tactic(auto)]
 
 #[cfg(test)]

@@ -13,9 +13,9 @@ returns c =
     let name = c.args.name.now in
     let ops = c.args.vector.now in
     IfOk-equal _ _ _ _ c.put_ops.ensures (
-      ap (λ (ops : List SubOp). c.put_name.new.text ++ ops_text ops) c.ops.ensures.value
-      ∙ ap (λ (t : List ℕ). t ++ ops_text ops) c.in_ok-put_name.ensures
-      ∙ append_assoc text (spaced name) (ops_text ops)
-      ∙ ap (λ (rest : List ℕ). text ++ (spaced name ++ rest)) (sym (ops_are_spaced ops))
-      ∙ ap (λ (rest : List ℕ). text ++ 32 ∷ rest) (sym (joined_is_spaced name (vector_words ops)))
+    ap (λ (ops : List SubOp). c.put_name.new.text ++ ops_text ops) c.ops.ensures.value
+    ∙ ap (λ (t : List ℕ). t ++ ops_text ops) c.in_ok-put_name.ensures
+    ∙ append_assoc text (spaced name) (ops_text ops)
+    ∙ ap (λ (rest : List ℕ). text ++ (spaced name ++ rest)) (sym (ops_are_spaced ops))
+    ∙ ap (λ (rest : List ℕ). text ++ 32 ∷ rest) (sym (joined_is_spaced name (vector_words ops)))
     )
