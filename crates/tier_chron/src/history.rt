@@ -163,14 +163,7 @@ fn open(opening: &mut IndexMap<Name, NameState>, first: Option<First>) -> u64
 }
 
 // The same where there is an opening.
-#[tactic(
-    auto,
-    using(
-        crate::proofs::Openings::found_opened,
-        crate::proofs::Openings::opened_new,
-        crate::proofs::Openings::opened_old
-    )
-)]
+#[tactic(auto, using(crate::proofs::Openings::found_opened, crate::proofs::Openings::opened_new, crate::proofs::Openings::opened_old))]
 fn open_name(opening: &mut IndexMap<Name, NameState>, first: First) -> u64
     requires { 1 ≤ spare opening.old }
     ensures opened { map first_of opening.new.entries ≡ opened (Some first)
