@@ -1,6 +1,7 @@
 -- The text of each answer.
 use Rattle.std.specs.Prelude.{ℕ, List, ◌++◌, codes}
-use Rattle.report_text.specs.Words.{key_text, kept_text, kind_text, mode_text, number_text, outs_text, pool_text, standing_text, why_text}
+use Rattle.report_text.specs.Words.{key_text, kept_text, kind_text, number_text, outs_text, pool_text, standing_text, why_text}
+use Rattle.script_lang.specs.Spelling.{mode_word}
 use Rattle.tier_chron.specs.declared.answer.AgentDid.{AgentDid}
 use Rattle.tier_chron.specs.declared.answer.AgentDid.TheVariants as did
 use Rattle.tier_chron.specs.declared.answer.Answer.{Answer}
@@ -42,7 +43,7 @@ answer_text place answer.Drained = codes "drained"
 answer_text place (answer.Left count name kind opid) =
     codes "left" ++ number_text count ++ key_text name ++ codes " " ++ kind_text kind
     ++ number_text opid
-answer_text place (answer.NotProxy mode) = codes "notproxy " ++ mode_text mode
+answer_text place (answer.NotProxy mode) = codes "notproxy " ++ mode_word mode
 answer_text place (answer.Agent did) = codes "agent " ++ did_text did
 answer_text place (answer.NoSpace pool used need limit) =
     codes "nospace " ++ pool_text pool ++ number_text used ++ number_text need ++ number_text limit

@@ -6,9 +6,10 @@ use Rattle.obj_model.specs.declared.state.NameState.{NameState}
 use Rattle.obj_model.specs.declared.state.Obj.{Obj}
 use Rattle.obj_model.specs.declared.tier.Path.{Path}
 use Rattle.report_text.specs.Answers.{answer_text}
-use Rattle.report_text.specs.Words.{key_text, mode_text, number_text, path_text, reply_text}
+use Rattle.report_text.specs.Words.{key_text, number_text, path_text, reply_text}
 use Rattle.report_text.specs.declared.told.Told.{Told}
 use Rattle.report_text.specs.declared.told.Told.TheVariants as told
+use Rattle.script_lang.specs.Spelling.{mode_word}
 use Rattle.tier_chron.specs.declared.entries.Act.{Act}
 
 -- the path of an answer that has one, where paths are asked for
@@ -21,7 +22,7 @@ way_text false path = []
 abbrev pub told_text : Bool → Told → List ℕ
 told_text paths (told.Answered answer path place) =
     answer_text place answer.now ++ way_text paths path
-told_text paths (told.Mode mode) = codes "mode " ++ mode_text mode
+told_text paths (told.Mode mode) = codes "mode " ++ mode_word mode
 told_text paths (told.Time moment) = codes "time" ++ number_text moment
 told_text paths (told.CacheStopped epoch) = codes "stopped cache epoch" ++ number_text epoch
 told_text paths told.BaseStopped = codes "stopped base"

@@ -12,8 +12,6 @@ use Rattle.obj_model.specs.declared.reply.Why.{Why}
 use Rattle.obj_model.specs.declared.reply.Why.TheVariants.{Exists, NoEnt, NoData, Canceled, Range, Overflow, TooBig}
 use Rattle.obj_model.specs.declared.tier.Kind.{Kind}
 use Rattle.obj_model.specs.declared.tier.Kind.TheVariants as kind
-use Rattle.obj_model.specs.declared.tier.Mode.{Mode}
-use Rattle.obj_model.specs.declared.tier.Mode.TheVariants as mode
 use Rattle.obj_model.specs.declared.tier.Path.{Path}
 use Rattle.obj_model.specs.declared.tier.Path.TheVariants as path
 use Rattle.script_lang.specs.Spelling.{bytes_word}
@@ -72,12 +70,6 @@ kind_text kind.Promote = codes "promote"
 kind_text kind.Write = codes "write"
 kind_text kind.Read = codes "read"
 kind_text kind.Flush = codes "flush"
-
--- the word of a mode
-abbrev pub mode_text : Mode → List ℕ
-mode_text mode.Writeback = codes "writeback"
-mode_text mode.Readproxy = codes "readproxy"
-mode_text mode.Proxy = codes "proxy"
 
 -- the word of a pool
 abbrev pub pool_text : Pool → List ℕ

@@ -5,10 +5,10 @@ ghost use Rattle.report_text.specs.Words.{kept_text, key_text, kind_text, number
 
 use crate::Text;
 use crate::words::{
-    kind_word, mode_word, pool_word, put_kept, put_name, put_number, put_outs, put_standing,
-    put_why,
+    kind_word, pool_word, put_kept, put_name, put_number, put_outs, put_standing, put_why,
 };
 use obj_model::{Kind, Name, NoMemory, Out, Pool, Why};
+use script_lang::mode_word;
 use tier_chron::{AgentDid, Answer};
 
 /// Puts the text of an answer, given at this place, behind a text.

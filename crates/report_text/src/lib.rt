@@ -9,7 +9,6 @@ mod answers;
 mod counts;
 mod lines;
 mod rows;
-mod text;
 mod told;
 mod words;
 
@@ -17,5 +16,5 @@ pub use answers::put_answer;
 pub use counts::{Class, Counts, put_summary};
 pub use lines::{answer_text, put_act};
 pub use rows::{put_base_row, put_cache_row};
-pub use text::Text;
+pub use script_lang::Text;
 pub use told::Told;

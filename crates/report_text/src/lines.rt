@@ -3,9 +3,10 @@ ghost use Rattle.std.specs.Prelude.{◌≡◌, ◌++◌, OnOk, Option};
 ghost use Rattle.report_text.specs.Lines.{act_text, all_told_text, line_text, told_text, way_text};
 
 use crate::answers::put_answer;
-use crate::words::{mode_word, path_word, put_name, put_number, put_reply};
+use crate::words::{path_word, put_name, put_number, put_reply};
 use crate::{Text, Told};
 use obj_model::{NoMemory, Path};
+use script_lang::mode_word;
 use tier_chron::Act;
 
 /// Puts the text of a line behind a text: its number, what it is told of each group, joined with `

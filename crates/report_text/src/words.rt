@@ -1,10 +1,10 @@
 //! Words that several texts share.
 ghost use Rattle.std.specs.Prelude.{◌≡◌, ◌++◌, OnOk};
 ghost use Rattle.std.specs.List.{flat_map};
-ghost use Rattle.report_text.specs.Words.{key_text, kept_text, kind_text, mode_text, number_text, out_text, outs_text, pair_text, path_text, pool_text, reply_text, standing_text, why_text};
+ghost use Rattle.report_text.specs.Words.{key_text, kept_text, kind_text, number_text, out_text, outs_text, pair_text, path_text, pool_text, reply_text, standing_text, why_text};
 
 use crate::Text;
-use obj_model::{Kind, Mode, Name, NoMemory, Out, Pair, Path, Pool, Reply, Why};
+use obj_model::{Kind, Name, NoMemory, Out, Pair, Path, Pool, Reply, Why};
 
 // A number behind a space.
 pub(crate) fn put_number(text: &mut Text, number: u64) -> Result<(), NoMemory>
@@ -148,17 +148,6 @@ pub(crate) fn kind_word(kind: Kind) -> &'static str
         Kind::Write => "write",
         Kind::Read => "read",
         Kind::Flush => "flush",
-    }
-}
-
-// The word of a mode.
-pub(crate) fn mode_word(mode: Mode) -> &'static str
-    ensures { result.now ≡ mode_text mode }
-{
-    match mode {
-        Mode::Writeback => "writeback",
-        Mode::Readproxy => "readproxy",
-        Mode::Proxy => "proxy",
     }
 }
 

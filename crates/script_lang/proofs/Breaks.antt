@@ -1,4 +1,5 @@
--- A text is cut at its first byte of a kind: the words and the lines of a text, taken off one after another.
+-- A text is cut at its first byte of a kind: the words and the lines of a text, taken off one after
+-- another.
 use Rattle.std.proofs.Common.{◌≡◌, ℕ, ◌+◌, ◌-◌, ◌<◌, ◌≤◌, ◌==◌, Bool, true, false, List, [], ◌∷◌, ◌++◌, length, get_or, take, drop, Some, None, refl, ap, ◌∙◌, subst, inl, inr, arith, ltb}
 use Rattle.std.specs.List.{All, position, position_or_len}
 use Rattle.std.proofs.lemmas.List.Splits.{slice_split_at, slice_split_none}
@@ -20,7 +21,8 @@ pub record IsBreak (p : ℕ → Bool) (xs : List ℕ) (at : ℕ) : Type 0 where
   pub passes : p (get_or xs at 0) ≡ true
 
 -- the first place below the length is a break
-first_is_break : (p : ℕ → Bool) (xs : List ℕ) → position_or_len p xs < length xs → IsBreak p xs (position_or_len p xs)
+first_is_break : (p : ℕ → Bool) (xs : List ℕ) → position_or_len p xs < length xs
+    → IsBreak p xs (position_or_len p xs)
 first_is_break p xs h =
     record {
       inside = h;
@@ -29,18 +31,21 @@ first_is_break p xs h =
           All-from_get_or (λ x. p x ≡ false) (take (position_or_len p xs) xs) 0
           (λ i lt.
           let below : i < position_or_len p xs = omega (arith, length-take {A = ℕ}) in
-          ap p (get_or-take (position_or_len p xs) xs i 0 below) ∙ fails_before_first p xs i 0 below);
+          ap p (get_or-take (position_or_len p xs) xs i 0 below)
+          ∙ fails_before_first p xs i 0 below);
       passes = passes_at_first p xs 0 h;
     }
 
-pub IsBreak-from_position : (p : ℕ → Bool) (xs : List ℕ) (at : ℕ) → position p xs ≡ Some at → IsBreak p xs at
+pub IsBreak-from_position : (p : ℕ → Bool) (xs : List ℕ) (at : ℕ) → position p xs ≡ Some at
+    → IsBreak p xs at
 IsBreak-from_position p xs at h =
     let parts = cond_some (ltb (position_or_len p xs) (length xs)) (position_or_len p xs) at h in
     let inside : position_or_len p xs < length xs = ltb-true _ _ parts.0 in
     let P : ℕ → Type 0 = IsBreak p xs in subst P parts.1 (first_is_break p xs inside)
 
 -- no element passes
-pub free_from_position : (p : ℕ → Bool) (xs : List ℕ) → position p xs ≡ None → All (λ x. p x ≡ false) xs
+pub free_from_position : (p : ℕ → Bool) (xs : List ℕ) → position p xs ≡ None
+    → All (λ x. p x ≡ false) xs
 free_from_position p xs h =
     let end : length xs ≤ position_or_len p xs = grind (arith, nat_tests) in
     All-from_get_or (λ x. p x ≡ false) xs 0 (λ i lt. fails_before_first p xs i 0 (omega arith))
@@ -54,22 +59,27 @@ pub words_at_space : (text : List ℕ) (at : ℕ) → position (λ b. b == 0x20)
     → words_of text ≡ take at text ∷ words_of (drop (at + 1) text)
 words_at_space text at h =
     let b = IsBreak-from_position _ text at h in
-    ap words_of b.whole ∙ slice_split_at (λ b. b == 0x20) (take at text) _ (drop (at + 1) text) b.free b.passes
+    ap words_of b.whole
+    ∙ slice_split_at (λ b. b == 0x20) (take at text) _ (drop (at + 1) text) b.free b.passes
 
-pub words_without_space : (text : List ℕ) → position (λ b. b == 0x20) text ≡ None → words_of text ≡ text ∷ []
+pub words_without_space : (text : List ℕ) → position (λ b. b == 0x20) text ≡ None
+    → words_of text ≡ text ∷ []
 words_without_space text h = slice_split_none (λ b. b == 0x20) text (free_from_position _ text h)
 
 -- the lines of a text: its first line, and the lines behind the newline
-lines_by_parts : (line rest : List ℕ) (b : ℕ) → All (λ x. (x == 0x0a) ≡ false) line → (b == 0x0a) ≡ true
+pub lines_by_parts : (line rest : List ℕ) (b : ℕ) → All (λ x. (x == 0x0a) ≡ false) line
+    → (b == 0x0a) ≡ true
     → lines_of (line ++ b ∷ rest) ≡ line ∷ lines_of rest
 lines_by_parts [] rest b free is = rw is refl
 lines_by_parts (x ∷ line) rest b free is =
     let first : (x == 0x0a) ≡ false = All-head (λ (x : ℕ). (x == 0x0a) ≡ false) x line free in
-    let more = lines_by_parts line rest b (All-tail (λ (x : ℕ). (x == 0x0a) ≡ false) x line free) is in
+    let more =
+    lines_by_parts line rest b (All-tail (λ (x : ℕ). (x == 0x0a) ≡ false) x line free) is in
     rw (first, more) refl
 
 -- a text without a newline is one line, if it has a byte
-line_alone : (b : ℕ) (line : List ℕ) → All (λ x. (x == 0x0a) ≡ false) (b ∷ line) → lines_of (b ∷ line) ≡ (b ∷ line) ∷ []
+pub line_alone : (b : ℕ) (line : List ℕ) → All (λ x. (x == 0x0a) ≡ false) (b ∷ line)
+    → lines_of (b ∷ line) ≡ (b ∷ line) ∷ []
 line_alone b [] free =
     let first : (b == 0x0a) ≡ false = All-head (λ (x : ℕ). (x == 0x0a) ≡ false) b [] free in
     rw first refl
@@ -84,10 +94,12 @@ lines_at_newline text at h =
     let b = IsBreak-from_position (λ b. b == 0x0a) text at h in
     ap lines_of b.whole ∙ lines_by_parts (take at text) (drop (at + 1) text) _ b.free b.passes
 
-pub lines_without_newline : (text : List ℕ) → 0 < length text → position (λ b. b == 0x0a) text ≡ None
+pub lines_without_newline : (text : List ℕ) → 0 < length text
+    → position (λ b. b == 0x0a) text ≡ None
     → lines_of text ≡ text ∷ []
 lines_without_newline [] some h = absurd (omega arith)
-lines_without_newline (b ∷ text) some h = line_alone b text (free_from_position (λ b. b == 0x0a) (b ∷ text) h)
+lines_without_newline (b ∷ text) some h =
+    line_alone b text (free_from_position (λ b. b == 0x0a) (b ∷ text) h)
 
 in_front_some : (b : ℕ) (lines : List (List ℕ)) → 0 < length (in_front b lines)
 in_front_some b [] = omega arith

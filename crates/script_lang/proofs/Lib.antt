@@ -9,3 +9,4 @@ pub mod Spelled
 pub mod Texts
 pub mod Vectors
 pub mod Steps
+pub mod Printed

@@ -1,11 +1,9 @@
 -- A text reads as a line exactly where it is the line's spelling, and the line may stand there.
-use Rattle.std.proofs.Common.{◌≡◌, ℕ, ◌≤◌, ◌^◌, ◌&&◌, nat_le, not, Bool, true, false, List, [], ◌∷◌, ◌++◌, append-nil, Option, Some, None, Result, Ok, Err, if◌then◌else◌, refl, sym, ap, ◌∙◌, arith, bytes_eq, codes, decimal}
+use Rattle.std.proofs.Common.{◌≡◌, ℕ, ◌≤◌, ◌^◌, ◌&&◌, nat_le, not, Bool, true, false, List, [], ◌∷◌, ◌++◌, append-nil, Some, Ok, Err, if◌then◌else◌, refl, sym, ap, ◌∙◌, arith, bytes_eq, codes, decimal}
 use Rattle.std.specs.List.{join_with_byte, list_any}
 use Rattle.std.specs.Cmp.Lexicographic.{bytes_decides}
 use Rattle.std.proofs.lemmas.Bool.{and_parts}
 use Rattle.std.proofs.lemmas.Bool.Decides.{nat_tests}
-use Rattle.std.proofs.lemmas.List.Elements.{recursion_from_All}
-use Rattle.obj_model.specs.Names.{name_fault}
 use Rattle.obj_model.specs.SubOps.{is_write}
 use Rattle.obj_model.specs.declared.tier.Mode.{Mode}
 use Rattle.obj_model.specs.declared.tier.Mode.TheVariants as mode
@@ -16,17 +14,16 @@ use Rattle.script_lang.specs.declared.line.Line.TheVariants as line
 use Rattle.script_lang.specs.declared.verbs.LineVerb.{LineVerb}
 use Rattle.script_lang.specs.declared.verbs.LineVerb.TheVariants as verb
 use Rattle.script_lang.specs.Contexts.{Context, IsInTime, MayStand, is_in_place}
-use Rattle.script_lang.specs.Spelling.{IsClient, IsLine, IsName, IsOp, Says, line_words, mode_word, spelling, vector_words}
+use Rattle.script_lang.specs.Spelling.{IsClient, IsLine, IsName, Says, line_words, mode_word, vector_words}
 use Rattle.script_lang.specs.Verbs.{line_verb_among, line_verb_of, line_verbs, line_word}
-use Rattle.script_lang.specs.Reading.{◌>>=◌, begin_by, by_word, client_at, client_of, ended, get_line, is_odd_byte, line_at, line_by, line_from, line_name_at, line_number_at, line_of, mode_line, mode_of, moment_of, name_line, name_of, number_of, op_line, or_cause, placed, rest_of, stop_by, time_line, unknown, unknown_mode, vector_of, word_at, words_of}
+use Rattle.script_lang.specs.Reading.{◌>>=◌, begin_by, by_word, client_at, client_of, ended, get_line, is_odd_byte, line_at, line_by, line_from, line_name_at, line_number_at, line_of, mode_line, mode_of, moment_of, name_line, name_of, number_of, op_line, or_cause, placed, rest_of, stop_by, time_line, unknown, vector_of, word_at, words_of}
 use Rattle.script_lang.proofs.Options.{bind_ok, by_word_ok, fit_ok, only_if_ok, or_cause_ok}
-use Rattle.script_lang.proofs.Joined.{IsWord, IsWords, joined-words_of, joined_is_even, literal_is_word, word_at-word, words_of-joined}
-use Rattle.script_lang.proofs.Numbers.{decimal_is_word, number_of-decimal, number_of-sound}
-use Rattle.script_lang.proofs.Names.{name_is_word, name_of-name, name_of-sound}
-use Rattle.script_lang.proofs.Subops.{vector_is_words, vector_of-sound, vector_of-words, word_first}
+use Rattle.script_lang.proofs.Joined.{joined-words_of}
+use Rattle.script_lang.proofs.Numbers.{number_of-sound}
+use Rattle.script_lang.proofs.Names.{name_of-sound}
+use Rattle.script_lang.proofs.Subops.{vector_of-sound, word_first}
 
 -- ---- fields
-
 line_number_at-sound : (words : List (List ℕ)) (n : ℕ) → line_number_at words ≡ Ok n
     → (words ≡ decimal n ∷ rest_of words) × (n ≤ 2 ^ 62)
 line_number_at-sound words n h =
@@ -34,7 +31,8 @@ line_number_at-sound words n h =
     let s = number_of-sound b.0 n b.2 in
     (word_first words b.0 b.1 ∙ ap (λ (x : List ℕ). x ∷ rest_of words) s.0, s.1)
 
-client_at-sound : (words : List (List ℕ)) (n : ℕ) → client_at words ≡ Ok n → (words ≡ decimal n ∷ rest_of words) × IsClient n
+client_at-sound : (words : List (List ℕ)) (n : ℕ) → client_at words ≡ Ok n
+    → (words ≡ decimal n ∷ rest_of words) × IsClient n
 client_at-sound words n h =
     let b = bind_ok (line_number_at words) client_of n h in
     let s = line_number_at-sound words b.0 b.1 in
@@ -51,33 +49,15 @@ line_name_at-sound words name h =
     let s = name_of-sound b.0 name b.2 in
     (word_first words b.0 b.1 ∙ ap (λ (x : List ℕ). x ∷ rest_of words) s.0, s.1)
 
-client_of-lawful : (n : ℕ) → IsClient n → client_of n ≡ Ok n
-client_of-lawful n h =
-    let low = h.low in
-    let high = h.high in
-    let test : (nat_le 1 n && nat_le n 256) ≡ true = grind (arith, nat_tests) in
-    rw test refl
-
-number_reads : (n : ℕ) (rest : List (List ℕ)) → n ≤ 2 ^ 62 → line_number_at (decimal n ∷ rest) ≡ Ok n
-number_reads n rest h = rw (word_at-word (decimal n) rest (decimal_is_word n h), number_of-decimal n h) refl
-
-client_reads : (n : ℕ) (rest : List (List ℕ)) → IsClient n → client_at (decimal n ∷ rest) ≡ Ok n
-client_reads n rest h =
-    let high = h.high in
-    rw (number_reads n rest (omega arith)) (client_of-lawful n h)
-
-name_reads : (name : List ℕ) (rest : List (List ℕ)) → IsName name → line_name_at (name ∷ rest) ≡ Ok name
-name_reads name rest h = rw (word_at-word name rest (name_is_word name h), name_of-name name h) refl
-
 -- ---- what was read is said
-
 -- words spell a lawful line, which sets no moment below this one
 pub record AreLine (least : ℕ) (words : List (List ℕ)) (said : Line) : Type 0 where
   pub spelled : words ≡ line_words said
   pub lawful : IsLine said
   pub in_time : IsInTime least said
 
-ended-ok : (said line : Line) (words : List (List ℕ)) → ended said words ≡ Ok line → (words ≡ []) × (said ≡ line)
+ended-ok : (said line : Line) (words : List (List ℕ)) → ended said words ≡ Ok line
+    → (words ≡ []) × (said ≡ line)
 ended-ok said line [] h = (refl, cc h)
 ended-ok said line (word ∷ words) h = cc h
 
@@ -96,7 +76,8 @@ op_line-sound least words said h =
     let tid = line_number_at-sound (rest_of words) b.0 b.1 in
     let name = line_name_at-sound (rest_of (rest_of words)) d.0 d.1 in
     let vector = vector_of-sound true (rest_of (rest_of (rest_of words))) v.0 v.1 in
-    let is : line.Op (record { client = a.0; tid = b.0; name = d.0; vector = v.0 }) ≡ said = cc v.2 in
+    let is : line.Op (record { client = a.0; tid = b.0; name = d.0; vector = v.0 }) ≡ said =
+    cc v.2 in
     let e : words ≡ decimal a.0 ∷ decimal b.0 ∷ d.0 ∷ vector_words v.0 =
     client.0 ∙ ap (λ (ws : List (List ℕ)). decimal a.0 ∷ ws) (tid.0
     ∙ ap (λ (ws : List (List ℕ)). decimal b.0 ∷ ws) (name.0
@@ -149,8 +130,10 @@ record IsOfName (least : ℕ) (front : List (List ℕ)) (make : List ℕ → Lin
   lawful : (name : List ℕ) → IsName name → IsLine (make name)
   in_time : (name : List ℕ) → IsInTime least (make name)
 
-name_line-sound : (least : ℕ) (front : List (List ℕ)) (make : List ℕ → Line) → IsOfName least front make
-    → (words : List (List ℕ)) (said : Line) → name_line make words ≡ Ok said → AreLine least (front ++ words) said
+name_line-sound : (least : ℕ) (front : List (List ℕ)) (make : List ℕ → Line)
+    → IsOfName least front make
+    → (words : List (List ℕ)) (said : Line) → name_line make words ≡ Ok said
+    → AreLine least (front ++ words) said
 name_line-sound least front make of words said h =
     let a = bind_ok (line_name_at words) _ said h in
     let name = line_name_at-sound words a.0 a.1 in
@@ -163,8 +146,10 @@ name_line-sound least front make of words said h =
     })
 
 -- a line of no field
-alone-sound : (least : ℕ) (front : List (List ℕ)) (line : Line) → line_words line ≡ front → IsLine line → IsInTime least line
-    → (words : List (List ℕ)) (said : Line) → ended line words ≡ Ok said → AreLine least (front ++ words) said
+alone-sound : (least : ℕ) (front : List (List ℕ)) (line : Line) → line_words line ≡ front
+    → IsLine line → IsInTime least line
+    → (words : List (List ℕ)) (said : Line) → ended line words ≡ Ok said
+    → AreLine least (front ++ words) said
 alone-sound least front line spelled lawful in_time words said h =
     let end = ended-ok line said words h in
     rw (← end.1) (record {
@@ -173,9 +158,11 @@ alone-sound least front line spelled lawful in_time words said h =
       in_time = in_time;
     })
 
-begin_by_tests : (least : ℕ) (words : List (List ℕ)) (word : List ℕ) (said : Line) (flush try : Bool)
+begin_by_tests : (least : ℕ) (words : List (List ℕ)) (word : List ℕ) (said : Line)
+    (flush try : Bool)
     → bytes_eq word (line_word verb.Flush) ≡ flush → bytes_eq word (line_word verb.Tryflush) ≡ try
-    → (if flush then name_line line.BeginFlush words else if try then name_line line.BeginTryflush words else Err cause.Verb) ≡ Ok said
+    → (if flush then name_line line.BeginFlush words
+    else if try then name_line line.BeginTryflush words else Err cause.Verb) ≡ Ok said
     → AreLine least (line_word verb.Begin ∷ word ∷ words) said
 begin_by_tests least words word said true try a b h =
     let e : word ≡ line_word verb.Flush = (bytes_decides word (line_word verb.Flush)).0 a in
@@ -183,38 +170,47 @@ begin_by_tests least words word said true try a b h =
     (record { words = λ name. refl; lawful = λ name n. n; in_time = λ name. tt }) words said h)
 begin_by_tests least words word said false true a b h =
     let e : word ≡ line_word verb.Tryflush = (bytes_decides word (line_word verb.Tryflush)).0 b in
-    rw e (name_line-sound least (line_word verb.Begin ∷ line_word verb.Tryflush ∷ []) line.BeginTryflush
+    rw e (name_line-sound least (line_word verb.Begin ∷ line_word verb.Tryflush ∷ [])
+    line.BeginTryflush
     (record { words = λ name. refl; lawful = λ name n. n; in_time = λ name. tt }) words said h)
 begin_by_tests least words word said false false a b h = cc h
 
-begin-sound : (least : ℕ) (words : List (List ℕ)) (said : Line) → by_word (begin_by (rest_of words)) (word_at words) ≡ Ok said
+begin-sound : (least : ℕ) (words : List (List ℕ)) (said : Line)
+    → by_word (begin_by (rest_of words)) (word_at words) ≡ Ok said
     → AreLine least (line_word verb.Begin ∷ words) said
 begin-sound least words said h =
     let b = by_word_ok (begin_by (rest_of words)) (word_at words) said h in
     rw (word_first words b.0 b.1) (begin_by_tests least (rest_of words) b.0 said _ _ refl refl b.2)
 
-stop_by_tests : (least : ℕ) (words : List (List ℕ)) (word : List ℕ) (said : Line) (cache base : Bool)
+stop_by_tests : (least : ℕ) (words : List (List ℕ)) (word : List ℕ) (said : Line)
+    (cache base : Bool)
     → bytes_eq word (codes "cache") ≡ cache → bytes_eq word (codes "base") ≡ base
-    → (if cache then ended line.StopCache words else if base then ended line.StopBase words else Err cause.Verb) ≡ Ok said
+    → (if cache then ended line.StopCache words else if base then ended line.StopBase words
+    else Err cause.Verb) ≡ Ok said
     → AreLine least (line_word verb.Stop ∷ word ∷ words) said
 stop_by_tests least words word said true base a b h =
     let e : word ≡ codes "cache" = (bytes_decides word (codes "cache")).0 a in
-    rw e (alone-sound least (line_word verb.Stop ∷ codes "cache" ∷ []) line.StopCache refl tt tt words said h)
+    rw e (alone-sound least (line_word verb.Stop ∷ codes "cache" ∷ []) line.StopCache refl tt tt
+    words said h)
 stop_by_tests least words word said false true a b h =
     let e : word ≡ codes "base" = (bytes_decides word (codes "base")).0 b in
-    rw e (alone-sound least (line_word verb.Stop ∷ codes "base" ∷ []) line.StopBase refl tt tt words said h)
+    rw e (alone-sound least (line_word verb.Stop ∷ codes "base" ∷ []) line.StopBase refl tt tt words
+    said h)
 stop_by_tests least words word said false false a b h = cc h
 
-stop-sound : (least : ℕ) (words : List (List ℕ)) (said : Line) → by_word (stop_by (rest_of words)) (word_at words) ≡ Ok said
+stop-sound : (least : ℕ) (words : List (List ℕ)) (said : Line)
+    → by_word (stop_by (rest_of words)) (word_at words) ≡ Ok said
     → AreLine least (line_word verb.Stop ∷ words) said
 stop-sound least words said h =
     let b = by_word_ok (stop_by (rest_of words)) (word_at words) said h in
     rw (word_first words b.0 b.1) (stop_by_tests least (rest_of words) b.0 said _ _ refl refl b.2)
 
 mode_by_tests : (word : List ℕ) (m : Mode) (why : Cause) (back read prox : Bool)
-    → bytes_eq word (mode_word mode.Writeback) ≡ back → bytes_eq word (mode_word mode.Readproxy) ≡ read
+    → bytes_eq word (mode_word mode.Writeback) ≡ back
+    → bytes_eq word (mode_word mode.Readproxy) ≡ read
     → bytes_eq word (mode_word mode.Proxy) ≡ prox
-    → (if back then Ok mode.Writeback else if read then Ok mode.Readproxy else if prox then Ok mode.Proxy else Err why) ≡ Ok m
+    → (if back then Ok mode.Writeback else if read then Ok mode.Readproxy
+    else if prox then Ok mode.Proxy else Err why) ≡ Ok m
     → word ≡ mode_word m
 mode_by_tests word m why true read prox a b d h =
     let e : mode.Writeback ≡ m = cc h in
@@ -239,8 +235,13 @@ mode-sound least words said h =
     let m = mode_of-sound b.0 a.0 b.2 in
     let end = ended-ok (line.SetMode a.0) said (rest_of words) a.2 in
     let e : words ≡ mode_word a.0 ∷ [] =
-    word_first words b.0 b.1 ∙ ap (λ (x : List ℕ). x ∷ rest_of words) m ∙ ap (λ (ws : List (List ℕ)). mode_word a.0 ∷ ws) end.0 in
-    rw (← end.1) (record { spelled = ap (λ (ws : List (List ℕ)). line_word verb.Mode ∷ ws) e; lawful = tt; in_time = tt })
+    word_first words b.0 b.1 ∙ ap (λ (x : List ℕ). x ∷ rest_of words) m
+    ∙ ap (λ (ws : List (List ℕ)). mode_word a.0 ∷ ws) end.0 in
+    rw (← end.1) (record {
+      spelled = ap (λ (ws : List (List ℕ)). line_word verb.Mode ∷ ws) e;
+      lawful = tt;
+      in_time = tt;
+    })
 
 time-sound : (least : ℕ) (words : List (List ℕ)) (said : Line) → time_line least words ≡ Ok said
     → AreLine least (line_word verb.Time ∷ words) said
@@ -251,34 +252,57 @@ time-sound least words said h =
     let m = only_if_ok (nat_le least a.0) _ a.0 b.0 b.1 in
     let end = ended-ok (line.SetTime b.0) said (rest_of words) b.2 in
     let e : words ≡ decimal b.0 ∷ [] =
-    n.0 ∙ ap (λ (ws : List (List ℕ)). decimal a.0 ∷ ws) end.0 ∙ ap (λ (k : ℕ). decimal k ∷ []) m.1 in
+    n.0 ∙ ap (λ (ws : List (List ℕ)). decimal a.0 ∷ ws) end.0
+    ∙ ap (λ (k : ℕ). decimal k ∷ []) m.1 in
     let late : least ≤ a.0 = grind (arith, nat_tests) in
     let same = m.1 in
     let small = n.1 in
     let lawful : b.0 ≤ 2 ^ 62 = omega arith in
     let after : least ≤ b.0 = omega arith in
-    rw (← end.1) (record { spelled = ap (λ (ws : List (List ℕ)). line_word verb.Time ∷ ws) e; lawful = lawful; in_time = after })
+    rw (← end.1) (record {
+      spelled = ap (λ (ws : List (List ℕ)). line_word verb.Time ∷ ws) e;
+      lawful = lawful;
+      in_time = after;
+    })
 
-line_by-sound : (least : ℕ) (v : LineVerb) (words : List (List ℕ)) (said : Line) → line_by least v words ≡ Ok said
+line_by-sound : (least : ℕ) (v : LineVerb) (words : List (List ℕ)) (said : Line)
+    → line_by least v words ≡ Ok said
     → AreLine least (line_word v ∷ words) said
 line_by-sound least verb.Op words said h = op_line-sound least words said h
 line_by-sound least verb.Get words said h = get_line-sound least words said h
 line_by-sound least verb.Flush words said h =
-    name_line-sound least (line_word verb.Flush ∷ []) line.Flush (record { words = λ name. refl; lawful = λ name n. n; in_time = λ name. tt }) words said h
+    name_line-sound least (line_word verb.Flush ∷ []) line.Flush (record {
+      words = λ name. refl;
+      lawful = λ name n. n;
+      in_time = λ name. tt;
+    }) words said h
 line_by-sound least verb.Tryflush words said h =
-    name_line-sound least (line_word verb.Tryflush ∷ []) line.Tryflush (record { words = λ name. refl; lawful = λ name n. n; in_time = λ name. tt }) words said h
+    name_line-sound least (line_word verb.Tryflush ∷ []) line.Tryflush
+    (record { words = λ name. refl; lawful = λ name n. n; in_time = λ name. tt }) words said h
 line_by-sound least verb.Begin words said h = begin-sound least words said h
 line_by-sound least verb.Finish words said h =
-    name_line-sound least (line_word verb.Finish ∷ []) line.Finish (record { words = λ name. refl; lawful = λ name n. n; in_time = λ name. tt }) words said h
+    name_line-sound least (line_word verb.Finish ∷ []) line.Finish (record {
+      words = λ name. refl;
+      lawful = λ name n. n;
+      in_time = λ name. tt;
+    }) words said h
 line_by-sound least verb.Evict words said h =
-    name_line-sound least (line_word verb.Evict ∷ []) line.Evict (record { words = λ name. refl; lawful = λ name n. n; in_time = λ name. tt }) words said h
-line_by-sound least verb.Drain words said h = alone-sound least (line_word verb.Drain ∷ []) line.Drain refl tt tt words said h
-line_by-sound least verb.Agent words said h = alone-sound least (line_word verb.Agent ∷ []) line.Agent refl tt tt words said h
+    name_line-sound least (line_word verb.Evict ∷ []) line.Evict (record {
+      words = λ name. refl;
+      lawful = λ name n. n;
+      in_time = λ name. tt;
+    }) words said h
+line_by-sound least verb.Drain words said h =
+    alone-sound least (line_word verb.Drain ∷ []) line.Drain refl tt tt words said h
+line_by-sound least verb.Agent words said h =
+    alone-sound least (line_word verb.Agent ∷ []) line.Agent refl tt tt words said h
 line_by-sound least verb.Mode words said h = mode-sound least words said h
 line_by-sound least verb.Time words said h = time-sound least words said h
 line_by-sound least verb.Stop words said h = stop-sound least words said h
-line_by-sound least verb.Par words said h = alone-sound least (line_word verb.Par ∷ []) line.Par refl tt tt words said h
-line_by-sound least verb.End words said h = alone-sound least (line_word verb.End ∷ []) line.End refl tt tt words said h
+line_by-sound least verb.Par words said h =
+    alone-sound least (line_word verb.Par ∷ []) line.Par refl tt tt words said h
+line_by-sound least verb.End words said h =
+    alone-sound least (line_word verb.End ∷ []) line.End refl tt tt words said h
 
 -- a verb is its word's
 among_by_test : (word : List ℕ) (v : LineVerb) (verbs : List LineVerb) (found : LineVerb)
@@ -290,63 +314,37 @@ among_by_test word v verbs found ih true is h =
     (bytes_decides word (line_word v)).0 is ∙ ap line_word e
 among_by_test word v verbs found ih false is h = ih h
 
-line_verb_among-sound : (word : List ℕ) (verbs : List LineVerb) (found : LineVerb) → line_verb_among verbs word ≡ Some found
+line_verb_among-sound : (word : List ℕ) (verbs : List LineVerb) (found : LineVerb)
+    → line_verb_among verbs word ≡ Some found
     → word ≡ line_word found
 line_verb_among-sound word [] found h = cc h
 line_verb_among-sound word (v ∷ verbs) found h =
     among_by_test word v verbs found (line_verb_among-sound word verbs found) _ refl h
 
-line_verb_of-sound : (word : List ℕ) (v : LineVerb) → line_verb_of word ≡ Some v → word ≡ line_word v
+line_verb_of-sound : (word : List ℕ) (v : LineVerb) → line_verb_of word ≡ Some v
+    → word ≡ line_word v
 unfolding line_verb_of
 line_verb_of-sound word v h = line_verb_among-sound word line_verbs v h
 
-line_verb_of-word : (v : LineVerb) → line_verb_of (line_word v) ≡ Some v
-unfolding line_verb_of
-line_verb_of-word verb.Op = refl
-line_verb_of-word verb.Get = refl
-line_verb_of-word verb.Flush = refl
-line_verb_of-word verb.Tryflush = refl
-line_verb_of-word verb.Begin = refl
-line_verb_of-word verb.Finish = refl
-line_verb_of-word verb.Evict = refl
-line_verb_of-word verb.Drain = refl
-line_verb_of-word verb.Agent = refl
-line_verb_of-word verb.Mode = refl
-line_verb_of-word verb.Time = refl
-line_verb_of-word verb.Stop = refl
-line_verb_of-word verb.Par = refl
-line_verb_of-word verb.End = refl
-
-verb_is_word : (v : LineVerb) → IsWord (line_word v)
-verb_is_word verb.Op = literal_is_word (line_word verb.Op) refl
-verb_is_word verb.Get = literal_is_word (line_word verb.Get) refl
-verb_is_word verb.Flush = literal_is_word (line_word verb.Flush) refl
-verb_is_word verb.Tryflush = literal_is_word (line_word verb.Tryflush) refl
-verb_is_word verb.Begin = literal_is_word (line_word verb.Begin) refl
-verb_is_word verb.Finish = literal_is_word (line_word verb.Finish) refl
-verb_is_word verb.Evict = literal_is_word (line_word verb.Evict) refl
-verb_is_word verb.Drain = literal_is_word (line_word verb.Drain) refl
-verb_is_word verb.Agent = literal_is_word (line_word verb.Agent) refl
-verb_is_word verb.Mode = literal_is_word (line_word verb.Mode) refl
-verb_is_word verb.Time = literal_is_word (line_word verb.Time) refl
-verb_is_word verb.Stop = literal_is_word (line_word verb.Stop) refl
-verb_is_word verb.Par = literal_is_word (line_word verb.Par) refl
-verb_is_word verb.End = literal_is_word (line_word verb.End) refl
-
-line_at-sound : (least : ℕ) (words : List (List ℕ)) (said : Line) → line_at least words ≡ Ok said → AreLine least words said
+line_at-sound : (least : ℕ) (words : List (List ℕ)) (said : Line) → line_at least words ≡ Ok said
+    → AreLine least words said
 line_at-sound least words said h =
     let b = by_word_ok (line_from least (rest_of words)) (word_at words) said h in
     let v = bind_ok (or_cause (unknown b.0 cause.Verb) (line_verb_of b.0)) _ said b.2 in
     let word = line_verb_of-sound b.0 v.0 (or_cause_ok _ (line_verb_of b.0) v.0 v.1) in
-    rw (word_first words b.0 b.1 ∙ ap (λ (x : List ℕ). x ∷ rest_of words) word) (line_by-sound least v.0 (rest_of words) said v.2)
+    rw (word_first words b.0 b.1
+    ∙ ap (λ (x : List ℕ). x ∷ rest_of words) word)
+    (line_by-sound least v.0 (rest_of words) said v.2)
 
 -- a text says a line that may stand here
-pub record SaysHere (ctx : Context) (texts : List (List ℕ)) (text : List ℕ) (said : Line) : Type 0 where
-  pub says : Says text said
-  pub place : MayStand ctx texts said
+pub record SaysHere (ctx : Context) (texts : List (List ℕ)) (text : List ℕ) (said : Line) : Type 0
+  where
+    pub says : Says text said
+    pub place : MayStand ctx texts said
 
 here_by_test : (ctx : Context) (texts : List (List ℕ)) (text : List ℕ) (said : Line) (odd : Bool)
-    → (if odd then Err cause.Byte else line_at ctx.moment (words_of text) >>= placed ctx.block texts) ≡ Ok said
+    → (if odd then Err cause.Byte
+    else line_at ctx.moment (words_of text) >>= placed ctx.block texts) ≡ Ok said
     → SaysHere ctx texts text said
 here_by_test ctx texts text said true h = cc h
 here_by_test ctx texts text said false h =
@@ -354,140 +352,17 @@ here_by_test ctx texts text said false h =
     let p = only_if_ok (is_in_place ctx.block texts a.0) _ a.0 said a.2 in
     let l = line_at-sound ctx.moment (words_of text) a.0 a.1 in
     rw (← p.1) (record {
-      says = record { lawful = l.lawful; spelled = sym (joined-words_of text) ∙ ap (join_with_byte 0x20) l.spelled };
+      says = record {
+        lawful = l.lawful;
+        spelled = sym (joined-words_of text)
+            ∙ ap (join_with_byte 0x20) l.spelled;
+      };
       place = record { in_time = l.in_time; in_place = p.0 };
     })
 
 -- what is read is said
-pub line_of-sound : (ctx : Context) (texts : List (List ℕ)) (text : List ℕ) (said : Line) → line_of ctx texts text ≡ Ok said
+pub line_of-sound : (ctx : Context) (texts : List (List ℕ)) (text : List ℕ) (said : Line)
+    → line_of ctx texts text ≡ Ok said
     → SaysHere ctx texts text said
 unfolding line_of
 line_of-sound ctx texts text said h = here_by_test ctx texts text said (list_any is_odd_byte text) h
-
--- ---- what is said is read
-
-mode_is_word : (m : Mode) → IsWord (mode_word m)
-mode_is_word mode.Writeback = literal_is_word (mode_word mode.Writeback) refl
-mode_is_word mode.Readproxy = literal_is_word (mode_word mode.Readproxy) refl
-mode_is_word mode.Proxy = literal_is_word (mode_word mode.Proxy) refl
-
-mode_of-word : (m : Mode) → mode_of (mode_word m) ≡ Ok m
-unfolding mode_of
-mode_of-word mode.Writeback = refl
-mode_of-word mode.Readproxy = refl
-mode_of-word mode.Proxy = refl
-
--- the words behind the verb of a lawful line
-line_is_words : (said : Line) → IsLine said → IsWords (line_words said)
-line_is_words (line.Op req) h =
-    let high = h.0.client_lawful.high in (
-      verb_is_word verb.Op,
-      (
-        decimal_is_word req.client (omega arith),
-        (
-          decimal_is_word req.tid h.1,
-          (name_is_word req.name h.0.name_lawful, vector_is_words req.vector (recursion_from_All IsOp req.vector h.0.each_spelled)),
-        ),
-      ),
-    )
-line_is_words (line.Get client name vector) h =
-    let high = h.0.client_lawful.high in (
-      verb_is_word verb.Get,
-      (
-        decimal_is_word client (omega arith),
-        (name_is_word name h.0.name_lawful, vector_is_words vector (recursion_from_All IsOp vector h.0.each_spelled)),
-      ),
-    )
-line_is_words (line.Flush name) h = (verb_is_word verb.Flush, (name_is_word name h, tt))
-line_is_words (line.Tryflush name) h = (verb_is_word verb.Tryflush, (name_is_word name h, tt))
-line_is_words (line.Finish name) h = (verb_is_word verb.Finish, (name_is_word name h, tt))
-line_is_words (line.Evict name) h = (verb_is_word verb.Evict, (name_is_word name h, tt))
-line_is_words (line.BeginFlush name) h = (verb_is_word verb.Begin, (verb_is_word verb.Flush, (name_is_word name h, tt)))
-line_is_words (line.BeginTryflush name) h = (verb_is_word verb.Begin, (verb_is_word verb.Tryflush, (name_is_word name h, tt)))
-line_is_words line.Drain h = (verb_is_word verb.Drain, tt)
-line_is_words line.Agent h = (verb_is_word verb.Agent, tt)
-line_is_words line.Par h = (verb_is_word verb.Par, tt)
-line_is_words line.End h = (verb_is_word verb.End, tt)
-line_is_words (line.SetMode m) h = (verb_is_word verb.Mode, (mode_is_word m, tt))
-line_is_words (line.SetTime moment) h = (verb_is_word verb.Time, (decimal_is_word moment h, tt))
-line_is_words line.StopCache h = (verb_is_word verb.Stop, (literal_is_word (codes "cache") refl, tt))
-line_is_words line.StopBase h = (verb_is_word verb.Stop, (literal_is_word (codes "base") refl, tt))
-
--- the words of a line read as it
-from_words : (least : ℕ) (v : LineVerb) (words : List (List ℕ)) (said : Line) → line_by least v words ≡ Ok said
-    → line_at least (line_word v ∷ words) ≡ Ok said
-from_words least v words said h = rw (word_at-word (line_word v) words (verb_is_word v), line_verb_of-word v) h
-
-name_line-words : (make : List ℕ → Line) (name : List ℕ) → IsName name → name_line make (name ∷ []) ≡ Ok (make name)
-name_line-words make name h = rw (name_reads name [] h) refl
-
-line_at-words : (least : ℕ) (said : Line) → IsLine said → IsInTime least said → line_at least (line_words said) ≡ Ok said
-line_at-words least (line.Op req) h t =
-    let client = client_reads req.client (decimal req.tid ∷ req.name ∷ vector_words req.vector) h.0.client_lawful in
-    let tid = number_reads req.tid (req.name ∷ vector_words req.vector) h.1 in
-    let name = name_reads req.name (vector_words req.vector) h.0.name_lawful in
-    let vector = vector_of-words true req.vector h.0.each_spelled h.0.vector_lawful h.2 in
-    from_words least verb.Op (decimal req.client ∷ decimal req.tid ∷ req.name ∷ vector_words req.vector) (line.Op req)
-    (rw (client, tid, name, vector) refl)
-line_at-words least (line.Get client name vector) h t =
-    let number = client_reads client (name ∷ vector_words vector) h.0.client_lawful in
-    let named = name_reads name (vector_words vector) h.0.name_lawful in
-    let none : not (list_any is_write vector) ≡ true = rw h.1 refl in
-    let ops = vector_of-words false vector h.0.each_spelled h.0.vector_lawful none in
-    from_words least verb.Get (decimal client ∷ name ∷ vector_words vector) (line.Get client name vector) (rw (number, named, ops) refl)
-line_at-words least (line.Flush name) h t = from_words least verb.Flush (name ∷ []) (line.Flush name) (name_line-words line.Flush name h)
-line_at-words least (line.Tryflush name) h t = from_words least verb.Tryflush (name ∷ []) (line.Tryflush name) (name_line-words line.Tryflush name h)
-line_at-words least (line.Finish name) h t = from_words least verb.Finish (name ∷ []) (line.Finish name) (name_line-words line.Finish name h)
-line_at-words least (line.Evict name) h t = from_words least verb.Evict (name ∷ []) (line.Evict name) (name_line-words line.Evict name h)
-line_at-words least (line.BeginFlush name) h t =
-    from_words least verb.Begin (line_word verb.Flush ∷ name ∷ []) (line.BeginFlush name) (name_line-words line.BeginFlush name h)
-line_at-words least (line.BeginTryflush name) h t =
-    from_words least verb.Begin (line_word verb.Tryflush ∷ name ∷ []) (line.BeginTryflush name) (name_line-words line.BeginTryflush name h)
-line_at-words least line.Drain h t = from_words least verb.Drain [] line.Drain refl
-line_at-words least line.Agent h t = from_words least verb.Agent [] line.Agent refl
-line_at-words least line.Par h t = from_words least verb.Par [] line.Par refl
-line_at-words least line.End h t = from_words least verb.End [] line.End refl
-line_at-words least (line.SetMode m) h t =
-    let word = word_at-word (mode_word m) [] (mode_is_word m) in
-    from_words least verb.Mode (mode_word m ∷ []) (line.SetMode m) (rw (word, mode_of-word m) refl)
-line_at-words least (line.SetTime moment) h t =
-    let number = number_reads moment [] h in
-    let late : nat_le least moment ≡ true = grind (arith, nat_tests) in
-    from_words least verb.Time (decimal moment ∷ []) (line.SetTime moment) (rw (number, late) refl)
-line_at-words least line.StopCache h t = from_words least verb.Stop (codes "cache" ∷ []) line.StopCache refl
-line_at-words least line.StopBase h t = from_words least verb.Stop (codes "base" ∷ []) line.StopBase refl
-
--- the words of a spelling are the line's
-words_of-spelling : (said : Line) → IsLine said → words_of (spelling said) ≡ line_words said
-words_of-spelling (line.Op req) h = words_of-joined (line_word verb.Op) (decimal req.client ∷ decimal req.tid ∷ req.name ∷ vector_words req.vector) (line_is_words (line.Op req) h)
-words_of-spelling (line.Get client name vector) h = words_of-joined (line_word verb.Get) (decimal client ∷ name ∷ vector_words vector) (line_is_words (line.Get client name vector) h)
-words_of-spelling (line.Flush name) h = words_of-joined (line_word verb.Flush) (name ∷ []) (line_is_words (line.Flush name) h)
-words_of-spelling (line.Tryflush name) h = words_of-joined (line_word verb.Tryflush) (name ∷ []) (line_is_words (line.Tryflush name) h)
-words_of-spelling (line.Finish name) h = words_of-joined (line_word verb.Finish) (name ∷ []) (line_is_words (line.Finish name) h)
-words_of-spelling (line.Evict name) h = words_of-joined (line_word verb.Evict) (name ∷ []) (line_is_words (line.Evict name) h)
-words_of-spelling (line.BeginFlush name) h = words_of-joined (line_word verb.Begin) (line_word verb.Flush ∷ name ∷ []) (line_is_words (line.BeginFlush name) h)
-words_of-spelling (line.BeginTryflush name) h = words_of-joined (line_word verb.Begin) (line_word verb.Tryflush ∷ name ∷ []) (line_is_words (line.BeginTryflush name) h)
-words_of-spelling line.Drain h = words_of-joined (line_word verb.Drain) ([]) (line_is_words line.Drain h)
-words_of-spelling line.Agent h = words_of-joined (line_word verb.Agent) ([]) (line_is_words line.Agent h)
-words_of-spelling line.Par h = words_of-joined (line_word verb.Par) ([]) (line_is_words line.Par h)
-words_of-spelling line.End h = words_of-joined (line_word verb.End) ([]) (line_is_words line.End h)
-words_of-spelling (line.SetMode m) h = words_of-joined (line_word verb.Mode) (mode_word m ∷ []) (line_is_words (line.SetMode m) h)
-words_of-spelling (line.SetTime moment) h = words_of-joined (line_word verb.Time) (decimal moment ∷ []) (line_is_words (line.SetTime moment) h)
-words_of-spelling line.StopCache h = words_of-joined (line_word verb.Stop) (codes "cache" ∷ []) (line_is_words line.StopCache h)
-words_of-spelling line.StopBase h = words_of-joined (line_word verb.Stop) (codes "base" ∷ []) (line_is_words line.StopBase h)
-
--- a spelling reads as its line, where the line may stand
-line_of-spelling : (ctx : Context) (texts : List (List ℕ)) (said : Line) → IsLine said → MayStand ctx texts said
-    → line_of ctx texts (spelling said) ≡ Ok said
-unfolding line_of
-line_of-spelling ctx texts said h p =
-    let even = joined_is_even (line_words said) (line_is_words said h) in
-    let words = words_of-spelling said h in
-    let read = line_at-words ctx.moment said h p.in_time in
-    let place = p.in_place in
-    rw (even, words, read, place) refl
-
--- what is said is read
-pub line_of-says : (ctx : Context) (texts : List (List ℕ)) (text : List ℕ) (said : Line) → Says text said → MayStand ctx texts said
-    → line_of ctx texts text ≡ Ok said
-line_of-says ctx texts text said s p = ap (line_of ctx texts) s.spelled ∙ line_of-spelling ctx texts said s.lawful p

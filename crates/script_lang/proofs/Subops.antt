@@ -1,9 +1,9 @@
 -- Words read as sub-operations exactly where they spell them.
-use Rattle.std.proofs.Common.{◌≡◌, ℕ, zero, suc, ◌^◌, ◌≤◌, Bool, true, false, List, [], ◌∷◌, ◌++◌, length, map, Option, Some, None, Result, Ok, Err, ◌==◌, if◌then◌else◌, refl, sym, ap, ◌∙◌, arith, bytes_eq, codes, decimal, append-nil, length-append}
+use Rattle.std.proofs.Common.{◌≡◌, ℕ, zero, suc, ◌^◌, ◌≤◌, Bool, true, false, List, [], ◌∷◌, ◌++◌, length, Option, Some, None, Result, Ok, Err, if◌then◌else◌, refl, sym, ap, ◌∙◌, arith, bytes_eq, codes, decimal, append-nil}
 use Rattle.std.specs.List.{All, AllByRecursion}
 use Rattle.std.specs.Option.{option_map}
 use Rattle.std.specs.Cmp.Lexicographic.{bytes_decides}
-use Rattle.std.proofs.lemmas.List.Elements.{All-from_recursion, recursion_from_All}
+use Rattle.std.proofs.lemmas.List.Elements.{All-from_recursion}
 use Rattle.hex.specs.Hex.{IsBytes}
 use Rattle.obj_model.specs.Names.{name_fault}
 use Rattle.obj_model.specs.Vectors.{vector_fault}
@@ -18,13 +18,13 @@ use Rattle.script_lang.specs.declared.cause.Cause.{Cause}
 use Rattle.script_lang.specs.declared.cause.Cause.TheVariants as cause
 use Rattle.obj_model.specs.declared.vector.BadVector.{BadVector}
 use Rattle.script_lang.proofs.Options.{bind_ok, fit_ok, by_word_ok, or_cause_ok, only_if_ok}
-use Rattle.script_lang.proofs.Joined.{IsWord, IsWords, IsWords-append, field_at-word, literal_is_word, word_at-word}
-use Rattle.script_lang.proofs.Names.{name_of-sound, name_of-name, name_is_not, name_is_word}
-use Rattle.script_lang.proofs.Numbers.{number_of-sound, number_of-decimal, decimal_is_field, decimal_is_word}
-use Rattle.script_lang.proofs.Hex.{bytes_of-sound, bytes_of-word, bytes_is_field, bytes_is_word}
+use Rattle.script_lang.proofs.Names.{name_of-sound}
+use Rattle.script_lang.proofs.Numbers.{number_of-sound}
+use Rattle.script_lang.proofs.Hex.{bytes_of-sound}
 
 -- the first word, where there is one
-pub first_word : (words : List (List ℕ)) (word : List ℕ) → first_of words ≡ Some word → words ≡ word ∷ rest_of words
+pub first_word : (words : List (List ℕ)) (word : List ℕ) → first_of words ≡ Some word
+    → words ≡ word ∷ rest_of words
 first_word [] word h = cc h
 first_word (w ∷ words) word h = ap (λ (x : List ℕ). x ∷ words) (let e : w ≡ word = cc h in e)
 
@@ -32,19 +32,24 @@ if_some-same : (w word : List ℕ) → if_some w ≡ Some word → w ≡ word
 if_some-same [] word h = cc h
 if_some-same (b ∷ w) word h = cc h
 
-pub word_first : (words : List (List ℕ)) (word : List ℕ) → word_at words ≡ Some word → words ≡ word ∷ rest_of words
+pub word_first : (words : List (List ℕ)) (word : List ℕ) → word_at words ≡ Some word
+    → words ≡ word ∷ rest_of words
 word_first [] word h = cc h
 word_first (w ∷ words) word h = ap (λ (x : List ℕ). x ∷ words) (if_some-same w word h)
 
-field_by_test : (w word : List ℕ) (semicolon : Bool) → (if semicolon then None else if_some w) ≡ Some word → w ≡ word
+field_by_test : (w word : List ℕ) (semicolon : Bool)
+    → (if semicolon then None else if_some w) ≡ Some word → w ≡ word
 field_by_test w word true h = cc h
 field_by_test w word false h = if_some-same w word h
 
-field_first : (words : List (List ℕ)) (word : List ℕ) → field_at words ≡ Some word → words ≡ word ∷ rest_of words
+field_first : (words : List (List ℕ)) (word : List ℕ) → field_at words ≡ Some word
+    → words ≡ word ∷ rest_of words
 field_first [] word h = cc h
-field_first (w ∷ words) word h = ap (λ (x : List ℕ). x ∷ words) (field_by_test w word (bytes_eq w (codes ";")) h)
+field_first (w ∷ words) word h =
+    ap (λ (x : List ℕ). x ∷ words) (field_by_test w word (bytes_eq w (codes ";")) h)
 
-number_at-sound : (words : List (List ℕ)) (n : ℕ) → number_at words ≡ Ok n → (words ≡ decimal n ∷ rest_of words) × (n ≤ 2 ^ 62)
+number_at-sound : (words : List (List ℕ)) (n : ℕ) → number_at words ≡ Ok n
+    → (words ≡ decimal n ∷ rest_of words) × (n ≤ 2 ^ 62)
 number_at-sound words n h =
     let b = fit_ok _ number_of (field_at words) n h in
     let s = number_of-sound b.0 n b.2 in
@@ -75,7 +80,8 @@ some_of_map : (o : Option (List ℕ)) (after : Option (List ℕ)) → option_map
 some_of_map (Some name) after h = (name, refl, sym (cc h))
 some_of_map None after h = cc h
 
-after_by_test : (word : List ℕ) (after : Option (List ℕ)) (test : Bool) → bytes_eq word (codes "-") ≡ test
+after_by_test : (word : List ℕ) (after : Option (List ℕ)) (test : Bool)
+    → bytes_eq word (codes "-") ≡ test
     → (if test then Some None else option_map Some (name_of word)) ≡ Some after
     → (word ≡ field_word (After after)) × IsField (After after)
 after_by_test word after true is h =
@@ -98,15 +104,7 @@ after_at-sound words after h =
     let s = after_of-sound b.0 after b.2 in
     (field_first words b.0 b.1 ∙ ap (λ (x : List ℕ). x ∷ rest_of words) s.0, s.1)
 
-after_of-word : (after : Option (List ℕ)) → IsField (After after) → after_of (field_word (After after)) ≡ Some after
-unfolding after_of
-after_of-word None h = refl
-after_of-word (Some name) h =
-    let dash = name_is_not name (codes "-") (bytes_eq name (codes "-")) refl h refl in
-    rw (dash, name_of-name name h) refl
-
 -- ---- verbs
-
 among_by_test : (word : List ℕ) (v : OpVerb) (verbs : List OpVerb) (found : OpVerb)
     → (verb_among verbs word ≡ Some found → word ≡ op_word found)
     → (test : Bool) → bytes_eq word (op_word v) ≡ test
@@ -116,7 +114,8 @@ among_by_test word v verbs found ih true is h =
     (bytes_decides word (op_word v)).0 is ∙ ap op_word e
 among_by_test word v verbs found ih false is h = ih h
 
-verb_among-sound : (word : List ℕ) (verbs : List OpVerb) (found : OpVerb) → verb_among verbs word ≡ Some found
+verb_among-sound : (word : List ℕ) (verbs : List OpVerb) (found : OpVerb)
+    → verb_among verbs word ≡ Some found
     → word ≡ op_word found
 verb_among-sound word [] found h = cc h
 verb_among-sound word (v ∷ verbs) found h =
@@ -126,49 +125,27 @@ op_verb_of-sound : (word : List ℕ) (v : OpVerb) → op_verb_of word ≡ Some v
 unfolding op_verb_of
 op_verb_of-sound word v h = verb_among-sound word op_verbs v h
 
--- a verb's word is the verb's
-op_verb_of-word : (v : OpVerb) → op_verb_of (op_word v) ≡ Some v
-unfolding op_verb_of
-op_verb_of-word verb.Create = refl
-op_verb_of-word verb.WriteFull = refl
-op_verb_of-word verb.Write = refl
-op_verb_of-word verb.Append = refl
-op_verb_of-word verb.Zero = refl
-op_verb_of-word verb.Truncate = refl
-op_verb_of-word verb.Remove = refl
-op_verb_of-word verb.SetXattr = refl
-op_verb_of-word verb.RmXattr = refl
-op_verb_of-word verb.OmapSet = refl
-op_verb_of-word verb.OmapRm = refl
-op_verb_of-word verb.OmapClear = refl
-op_verb_of-word verb.AssertExists = refl
-op_verb_of-word verb.AssertVer = refl
-op_verb_of-word verb.CmpXattr = refl
-op_verb_of-word verb.Read = refl
-op_verb_of-word verb.Stat = refl
-op_verb_of-word verb.GetXattr = refl
-op_verb_of-word verb.ListXattrs = refl
-op_verb_of-word verb.OmapGet = refl
-op_verb_of-word verb.OmapList = refl
-
 -- ---- fields
-
 -- what a reader reads of the first word is a field's value, and the word is the field's
 abbrev IsSound : {A : Type 0} → (List (List ℕ) → Result A Cause) → (A → Field) → Type 0
 IsSound {A} read field =
-    (words : List (List ℕ)) (x : A) → read words ≡ Ok x → (words ≡ field_word (field x) ∷ rest_of words) × IsField (field x)
+    (words : List (List ℕ)) (x : A) → read words ≡ Ok x
+    → (words ≡ field_word (field x) ∷ rest_of words) × IsField (field x)
 
 -- sub-operations of a verb and one field, however they are made
 record HasOne {A : Type 0} (v : OpVerb) (field : A → Field) (make : A → SubOp) : Type 0 where
   verb : (x : A) → verb_of (make x) ≡ v
   fields : (x : A) → fields (make x) ≡ field x ∷ []
 
-record HasTwo {A B : Type 0} (v : OpVerb) (first : A → Field) (second : B → Field) (make : A → B → SubOp) : Type 0 where
+record HasTwo {A B : Type 0} (v : OpVerb) (first : A → Field) (second : B → Field) (make : A → B
+    → SubOp) : Type 0 where
   verb : (x : A) (y : B) → verb_of (make x y) ≡ v
   fields : (x : A) (y : B) → fields (make x y) ≡ first x ∷ second y ∷ []
 
-of_one-sound : {A : Type 0} (read : List (List ℕ) → Result A Cause) (field : A → Field) (make : A → SubOp) (v : OpVerb)
-    → IsSound read field → HasOne v field make → (words : List (List ℕ)) (t : TakenOp) → of_one read make words ≡ Ok t
+of_one-sound : {A : Type 0} (read : List (List ℕ) → Result A Cause) (field : A → Field) (make : A
+    → SubOp) (v : OpVerb)
+    → IsSound read field → HasOne v field make → (words : List (List ℕ)) (t : TakenOp)
+    → of_one read make words ≡ Ok t
     → IsTaken (op_word v ∷ words) t.0 t.1
 of_one-sound read field make v sound has words t h =
     let b = bind_ok (read words) _ t h in
@@ -179,9 +156,12 @@ of_one-sound read field make v sound has words t h =
       lawful = rw (has.fields b.0) (s.1, tt);
     })
 
-of_two-sound : {A B : Type 0} (read : List (List ℕ) → Result A Cause) (next : List (List ℕ) → Result B Cause) (first : A → Field)
-    (second : B → Field) (make : A → B → SubOp) (v : OpVerb) → IsSound read first → IsSound next second
-    → HasTwo v first second make → (words : List (List ℕ)) (t : TakenOp) → of_two read next make words ≡ Ok t
+of_two-sound : {A B : Type 0} (read : List (List ℕ) → Result A Cause) (next : List (List ℕ)
+    → Result B Cause) (first : A → Field)
+    (second : B → Field) (make : A → B → SubOp) (v : OpVerb) → IsSound read first
+    → IsSound next second
+    → HasTwo v first second make → (words : List (List ℕ)) (t : TakenOp)
+    → of_two read next make words ≡ Ok t
     → IsTaken (op_word v ∷ words) t.0 t.1
 of_two-sound read next first second make v one two has words t h =
     let a = bind_ok (read words) _ t h in
@@ -192,11 +172,13 @@ of_two-sound read next first second make v one two has words t h =
     rw (← e) (record {
       spelled =
           rw (has.verb a.0 b.0, has.fields a.0 b.0)
-          (ap (λ (ws : List (List ℕ)). op_word v ∷ ws) (r.0 ∙ ap (λ (ws : List (List ℕ)). field_word (first a.0) ∷ ws) s.0));
+          (ap (λ (ws : List (List ℕ)). op_word v ∷ ws) (r.0
+          ∙ ap (λ (ws : List (List ℕ)). field_word (first a.0) ∷ ws) s.0));
       lawful = rw (has.fields a.0 b.0) (r.1, (s.1, tt));
     })
 
-alone-sound : (o : SubOp) → fields o ≡ [] → (words : List (List ℕ)) (t : TakenOp) → alone o words ≡ Ok t
+alone-sound : (o : SubOp) → fields o ≡ [] → (words : List (List ℕ)) (t : TakenOp)
+    → alone o words ≡ Ok t
     → IsTaken (op_word (verb_of o) ∷ words) t.0 t.1
 alone-sound o none words t h =
     let e : (o, words) ≡ t = cc h in
@@ -215,146 +197,83 @@ key words name h = name_at-sound words name h
 after : IsSound after_at After
 after words a h = after_at-sound words a h
 
-op_of-sound : (v : OpVerb) (words : List (List ℕ)) (t : TakenOp) → op_of v words ≡ Ok t → IsTaken (op_word v ∷ words) t.0 t.1
+op_of-sound : (v : OpVerb) (words : List (List ℕ)) (t : TakenOp) → op_of v words ≡ Ok t
+    → IsTaken (op_word v ∷ words) t.0 t.1
 op_of-sound verb.Create words t h = alone-sound op.Create refl words t h
 op_of-sound verb.WriteFull words t h =
-    of_one-sound bytes_at Hex op.WriteFull verb.WriteFull hex (record { verb = λ x. refl; fields = λ x. refl }) words t h
+    of_one-sound bytes_at Hex op.WriteFull verb.WriteFull hex (record {
+      verb = λ x. refl;
+      fields = λ x. refl;
+    }) words t h
 op_of-sound verb.Write words t h =
-    of_two-sound number_at bytes_at Number Hex op.Write verb.Write number hex (record { verb = λ x y. refl; fields = λ x y. refl }) words t h
+    of_two-sound number_at bytes_at Number Hex op.Write verb.Write number hex
+    (record { verb = λ x y. refl; fields = λ x y. refl }) words t h
 op_of-sound verb.Append words t h =
-    of_one-sound bytes_at Hex op.Append verb.Append hex (record { verb = λ x. refl; fields = λ x. refl }) words t h
+    of_one-sound bytes_at Hex op.Append verb.Append hex (record {
+      verb = λ x. refl;
+      fields = λ x. refl;
+    }) words t h
 op_of-sound verb.Zero words t h =
-    of_two-sound number_at number_at Number Number op.Zero verb.Zero number number (record { verb = λ x y. refl; fields = λ x y. refl }) words t h
+    of_two-sound number_at number_at Number Number op.Zero verb.Zero number number
+    (record { verb = λ x y. refl; fields = λ x y. refl }) words t h
 op_of-sound verb.Truncate words t h =
-    of_one-sound number_at Number op.Truncate verb.Truncate number (record { verb = λ x. refl; fields = λ x. refl }) words t h
+    of_one-sound number_at Number op.Truncate verb.Truncate number (record {
+      verb = λ x. refl;
+      fields = λ x. refl;
+    }) words t h
 op_of-sound verb.Remove words t h = alone-sound op.Remove refl words t h
 op_of-sound verb.SetXattr words t h =
-    of_two-sound name_at bytes_at Key Hex op.SetXattr verb.SetXattr key hex (record { verb = λ x y. refl; fields = λ x y. refl }) words t h
+    of_two-sound name_at bytes_at Key Hex op.SetXattr verb.SetXattr key hex
+    (record { verb = λ x y. refl; fields = λ x y. refl }) words t h
 op_of-sound verb.RmXattr words t h =
-    of_one-sound name_at Key op.RmXattr verb.RmXattr key (record { verb = λ x. refl; fields = λ x. refl }) words t h
+    of_one-sound name_at Key op.RmXattr verb.RmXattr key (record {
+      verb = λ x. refl;
+      fields = λ x. refl;
+    }) words t h
 op_of-sound verb.OmapSet words t h =
-    of_two-sound name_at bytes_at Key Hex op.OmapSet verb.OmapSet key hex (record { verb = λ x y. refl; fields = λ x y. refl }) words t h
+    of_two-sound name_at bytes_at Key Hex op.OmapSet verb.OmapSet key hex
+    (record { verb = λ x y. refl; fields = λ x y. refl }) words t h
 op_of-sound verb.OmapRm words t h =
-    of_one-sound name_at Key op.OmapRm verb.OmapRm key (record { verb = λ x. refl; fields = λ x. refl }) words t h
+    of_one-sound name_at Key op.OmapRm verb.OmapRm key (record {
+      verb = λ x. refl;
+      fields = λ x. refl;
+    }) words t h
 op_of-sound verb.OmapClear words t h = alone-sound op.OmapClear refl words t h
 op_of-sound verb.AssertExists words t h = alone-sound op.AssertExists refl words t h
 op_of-sound verb.AssertVer words t h =
-    of_one-sound number_at Number op.AssertVer verb.AssertVer number (record { verb = λ x. refl; fields = λ x. refl }) words t h
+    of_one-sound number_at Number op.AssertVer verb.AssertVer number (record {
+      verb = λ x. refl;
+      fields = λ x. refl;
+    }) words t h
 op_of-sound verb.CmpXattr words t h =
-    of_two-sound name_at bytes_at Key Hex op.CmpXattr verb.CmpXattr key hex (record { verb = λ x y. refl; fields = λ x y. refl }) words t h
+    of_two-sound name_at bytes_at Key Hex op.CmpXattr verb.CmpXattr key hex
+    (record { verb = λ x y. refl; fields = λ x y. refl }) words t h
 op_of-sound verb.Read words t h =
-    of_two-sound number_at number_at Number Number op.Read verb.Read number number (record { verb = λ x y. refl; fields = λ x y. refl }) words t h
+    of_two-sound number_at number_at Number Number op.Read verb.Read number number
+    (record { verb = λ x y. refl; fields = λ x y. refl }) words t h
 op_of-sound verb.Stat words t h = alone-sound op.Stat refl words t h
 op_of-sound verb.GetXattr words t h =
-    of_one-sound name_at Key op.GetXattr verb.GetXattr key (record { verb = λ x. refl; fields = λ x. refl }) words t h
+    of_one-sound name_at Key op.GetXattr verb.GetXattr key (record {
+      verb = λ x. refl;
+      fields = λ x. refl;
+    }) words t h
 op_of-sound verb.ListXattrs words t h = alone-sound op.ListXattrs refl words t h
 op_of-sound verb.OmapGet words t h =
-    of_one-sound name_at Key op.OmapGet verb.OmapGet key (record { verb = λ x. refl; fields = λ x. refl }) words t h
+    of_one-sound name_at Key op.OmapGet verb.OmapGet key (record {
+      verb = λ x. refl;
+      fields = λ x. refl;
+    }) words t h
 op_of-sound verb.OmapList words t h =
-    of_two-sound after_at number_at After Number op.OmapList verb.OmapList after number (record { verb = λ x y. refl; fields = λ x y. refl }) words t h
+    of_two-sound after_at number_at After Number op.OmapList verb.OmapList after number
+    (record { verb = λ x y. refl; fields = λ x y. refl }) words t h
 
 pub op_at-sound : (words : List (List ℕ)) (t : TakenOp) → op_at words ≡ Ok t → IsTaken words t.0 t.1
 op_at-sound words t h =
     let b = by_word_ok (op_from (rest_of words)) (word_at words) t h in
     let v = bind_ok (or_cause (unknown b.0 cause.Subop) (op_verb_of b.0)) _ t b.2 in
     let verb = op_verb_of-sound b.0 v.0 (or_cause_ok _ (op_verb_of b.0) v.0 v.1) in
-    rw (word_first words b.0 b.1 ∙ ap (λ (x : List ℕ). x ∷ rest_of words) verb) (op_of-sound v.0 (rest_of words) t v.2)
-
--- ---- the words of fields read as them
-
-number_reads : (n : ℕ) (rest : List (List ℕ)) → n ≤ 2 ^ 62 → number_at (decimal n ∷ rest) ≡ Ok n
-number_reads n rest h = rw (field_at-word (decimal n) rest (decimal_is_word n h) (decimal_is_field n h), number_of-decimal n h) refl
-
-bytes_read : (bytes : List ℕ) (rest : List (List ℕ)) → IsBytes bytes → bytes_at (bytes_word bytes ∷ rest) ≡ Ok bytes
-bytes_read bytes rest h =
-    rw (field_at-word (bytes_word bytes) rest (bytes_is_word bytes h) (bytes_is_field bytes h), bytes_of-word bytes h) refl
-
-name_is_field : (name : List ℕ) → name_fault name ≡ None → bytes_eq name (codes ";") ≡ false
-name_is_field name h = name_is_not name (codes ";") (bytes_eq name (codes ";")) refl h refl
-
-key_reads : (name : List ℕ) (rest : List (List ℕ)) → name_fault name ≡ None → name_at (name ∷ rest) ≡ Ok name
-key_reads name rest h = rw (field_at-word name rest (name_is_word name h) (name_is_field name h), name_of-name name h) refl
-
-after_reads : (after : Option (List ℕ)) (rest : List (List ℕ)) → IsField (After after)
-    → after_at (field_word (After after) ∷ rest) ≡ Ok after
-after_reads None rest h = rw (after_of-word None h) refl
-after_reads (Some name) rest h =
-    rw (field_at-word name rest (name_is_word name h) (name_is_field name h), after_of-word (Some name) h) refl
-
--- the words of a sub-operation's fields read as it
-op_of-fields : (o : SubOp) (rest : List (List ℕ)) → IsOp o → op_of (verb_of o) (map field_word (fields o) ++ rest) ≡ Ok (o, rest)
-op_of-fields op.Create rest h = refl
-op_of-fields (op.WriteFull bytes) rest h = rw (bytes_read bytes rest h.0) refl
-op_of-fields (op.Write off bytes) rest h = rw (number_reads off (bytes_word bytes ∷ rest) h.0, bytes_read bytes rest h.1.0) refl
-op_of-fields (op.Append bytes) rest h = rw (bytes_read bytes rest h.0) refl
-op_of-fields (op.Zero off len) rest h = rw (number_reads off (decimal len ∷ rest) h.0, number_reads len rest h.1.0) refl
-op_of-fields (op.Truncate size) rest h = rw (number_reads size rest h.0) refl
-op_of-fields op.Remove rest h = refl
-op_of-fields (op.SetXattr k bytes) rest h = rw (key_reads k (bytes_word bytes ∷ rest) h.0, bytes_read bytes rest h.1.0) refl
-op_of-fields (op.RmXattr k) rest h = rw (key_reads k rest h.0) refl
-op_of-fields (op.OmapSet k bytes) rest h = rw (key_reads k (bytes_word bytes ∷ rest) h.0, bytes_read bytes rest h.1.0) refl
-op_of-fields (op.OmapRm k) rest h = rw (key_reads k rest h.0) refl
-op_of-fields op.OmapClear rest h = refl
-op_of-fields op.AssertExists rest h = refl
-op_of-fields (op.AssertVer ver) rest h = rw (number_reads ver rest h.0) refl
-op_of-fields (op.CmpXattr k bytes) rest h = rw (key_reads k (bytes_word bytes ∷ rest) h.0, bytes_read bytes rest h.1.0) refl
-op_of-fields (op.Read off len) rest h = rw (number_reads off (decimal len ∷ rest) h.0, number_reads len rest h.1.0) refl
-op_of-fields op.Stat rest h = refl
-op_of-fields (op.GetXattr k) rest h = rw (key_reads k rest h.0) refl
-op_of-fields op.ListXattrs rest h = refl
-op_of-fields (op.OmapGet k) rest h = rw (key_reads k rest h.0) refl
-op_of-fields (op.OmapList a max) rest h = rw (after_reads a (decimal max ∷ rest) h.0, number_reads max rest h.1.0) refl
-
-verb_is_word : (v : OpVerb) → IsWord (op_word v)
-verb_is_word verb.Create = literal_is_word (op_word verb.Create) refl
-verb_is_word verb.WriteFull = literal_is_word (op_word verb.WriteFull) refl
-verb_is_word verb.Write = literal_is_word (op_word verb.Write) refl
-verb_is_word verb.Append = literal_is_word (op_word verb.Append) refl
-verb_is_word verb.Zero = literal_is_word (op_word verb.Zero) refl
-verb_is_word verb.Truncate = literal_is_word (op_word verb.Truncate) refl
-verb_is_word verb.Remove = literal_is_word (op_word verb.Remove) refl
-verb_is_word verb.SetXattr = literal_is_word (op_word verb.SetXattr) refl
-verb_is_word verb.RmXattr = literal_is_word (op_word verb.RmXattr) refl
-verb_is_word verb.OmapSet = literal_is_word (op_word verb.OmapSet) refl
-verb_is_word verb.OmapRm = literal_is_word (op_word verb.OmapRm) refl
-verb_is_word verb.OmapClear = literal_is_word (op_word verb.OmapClear) refl
-verb_is_word verb.AssertExists = literal_is_word (op_word verb.AssertExists) refl
-verb_is_word verb.AssertVer = literal_is_word (op_word verb.AssertVer) refl
-verb_is_word verb.CmpXattr = literal_is_word (op_word verb.CmpXattr) refl
-verb_is_word verb.Read = literal_is_word (op_word verb.Read) refl
-verb_is_word verb.Stat = literal_is_word (op_word verb.Stat) refl
-verb_is_word verb.GetXattr = literal_is_word (op_word verb.GetXattr) refl
-verb_is_word verb.ListXattrs = literal_is_word (op_word verb.ListXattrs) refl
-verb_is_word verb.OmapGet = literal_is_word (op_word verb.OmapGet) refl
-verb_is_word verb.OmapList = literal_is_word (op_word verb.OmapList) refl
-
-pub op_at-words : (o : SubOp) (rest : List (List ℕ)) → IsOp o → op_at (op_words o ++ rest) ≡ Ok (o, rest)
-op_at-words o rest h =
-    let word = word_at-word (op_word (verb_of o)) (map field_word (fields o) ++ rest) (verb_is_word (verb_of o)) in
-    rw (word, op_verb_of-word (verb_of o)) (op_of-fields o rest h)
-
--- ---- several
-
-field_is_word : (f : Field) → IsField f → IsWord (field_word f)
-field_is_word (Number n) h = decimal_is_word n h
-field_is_word (Hex bytes) h = bytes_is_word bytes h
-field_is_word (Key k) h = name_is_word k h
-field_is_word (After None) h = literal_is_word (codes "-") refl
-field_is_word (After (Some k)) h = name_is_word k h
-
-fields_are_words : (fs : List Field) → AllByRecursion IsField fs → IsWords (map field_word fs)
-fields_are_words [] h = tt
-fields_are_words (f ∷ fs) h = (field_is_word f h.0, fields_are_words fs h.1)
-
-pub op_is_words : (o : SubOp) → IsOp o → IsWords (op_words o)
-op_is_words o h = (verb_is_word (verb_of o), fields_are_words (fields o) h)
-
-pub vector_is_words : (ops : List SubOp) → AllByRecursion IsOp ops → IsWords (vector_words ops)
-vector_is_words [] h = tt
-vector_is_words (op ∷ []) h = op_is_words op h.0
-vector_is_words (op ∷ next ∷ ops) h =
-    IsWords-append (op_words op) (codes ";" ∷ vector_words (next ∷ ops)) (op_is_words op h.0)
-    (literal_is_word (codes ";") refl, vector_is_words (next ∷ ops) h.1)
+    rw (word_first words b.0 b.1
+    ∙ ap (λ (x : List ℕ). x ∷ rest_of words) verb) (op_of-sound v.0 (rest_of words) t v.2)
 
 -- words spell sub-operations
 pub record AreSpelled (words : List (List ℕ)) (ops : List SubOp) : Type 0 where
@@ -362,13 +281,15 @@ pub record AreSpelled (words : List (List ℕ)) (ops : List SubOp) : Type 0 wher
   pub lawful : AllByRecursion IsOp ops
   pub some : 1 ≤ length ops
 
-put_first-ok : (op : SubOp) (others : Result (List SubOp) Cause) (ops : List SubOp) → put_first op others ≡ Ok ops
+put_first-ok : (op : SubOp) (others : Result (List SubOp) Cause) (ops : List SubOp)
+    → put_first op others ≡ Ok ops
     → (more : List SubOp) × (others ≡ Ok more) × (op ∷ more ≡ ops)
 put_first-ok op (Ok more) ops h = (more, refl, cc h)
 put_first-ok op (Err why) ops h = cc h
 
 -- one more in front
-spelled_in_front : (op : SubOp) (words : List (List ℕ)) (more : List SubOp) → IsOp op → AreSpelled words more
+spelled_in_front : (op : SubOp) (words : List (List ℕ)) (more : List SubOp) → IsOp op
+    → AreSpelled words more
     → AreSpelled (op_words op ++ codes ";" ∷ words) (op ∷ more)
 spelled_in_front op words [] h s = absurd (omega (arith, s.some))
 spelled_in_front op words (next ∷ more) h s =
@@ -380,7 +301,8 @@ spelled_in_front op words (next ∷ more) h s =
 
 behind_by_test : (others : List (List ℕ) → Result (List SubOp) Cause)
     → ((words : List (List ℕ)) (ops : List SubOp) → others words ≡ Ok ops → AreSpelled words ops)
-    → (op : SubOp) (word : List ℕ) (words : List (List ℕ)) (ops : List SubOp) (test : Bool) → bytes_eq word (codes ";") ≡ test
+    → (op : SubOp) (word : List ℕ) (words : List (List ℕ)) (ops : List SubOp) (test : Bool)
+    → bytes_eq word (codes ";") ≡ test
     → (if test then put_first op (others words) else Err cause.Words) ≡ Ok ops → IsOp op
     → AreSpelled (op_words op ++ word ∷ words) ops
 behind_by_test others ih op word words ops true is h lawful =
@@ -391,50 +313,43 @@ behind_by_test others ih op word words ops false is h lawful = cc h
 
 behind-sound : (others : List (List ℕ) → Result (List SubOp) Cause)
     → ((words : List (List ℕ)) (ops : List SubOp) → others words ≡ Ok ops → AreSpelled words ops)
-    → (op : SubOp) (rest : List (List ℕ)) (ops : List SubOp) → ops_behind others op rest ≡ Ok ops → IsOp op
+    → (op : SubOp) (rest : List (List ℕ)) (ops : List SubOp) → ops_behind others op rest ≡ Ok ops
+    → IsOp op
     → AreSpelled (op_words op ++ rest) ops
 behind-sound others ih op [] ops h lawful =
     let e : op ∷ [] ≡ ops = cc h in
-    rw (← e) (record { spelled = append-nil (op_words op); lawful = (lawful, tt); some = omega arith })
-behind-sound others ih op (word ∷ words) ops h lawful = behind_by_test others ih op word words ops _ refl h lawful
+    rw (← e) (record {
+      spelled = append-nil (op_words op);
+      lawful = (lawful, tt);
+      some = omega arith;
+    })
+behind-sound others ih op (word ∷ words) ops h lawful =
+    behind_by_test others ih op word words ops _ refl h lawful
 
-pub ops_within-sound : (most : ℕ) (words : List (List ℕ)) (ops : List SubOp) → ops_within most words ≡ Ok ops
+pub ops_within-sound : (most : ℕ) (words : List (List ℕ)) (ops : List SubOp)
+    → ops_within most words ≡ Ok ops
     → AreSpelled words ops
 unfolding ops_within
 ops_within-sound zero words ops h = cc h
 ops_within-sound (suc most) words ops h =
     let b = bind_ok (op_at words) _ ops h in
     let s = op_at-sound words b.0 b.1 in
-    rw s.spelled (behind-sound (ops_within most) (ops_within-sound most) b.0.0 b.0.1 ops b.2 s.lawful)
-
-pub ops_within-words : (op : SubOp) (ops : List SubOp) → AllByRecursion IsOp (op ∷ ops) → (most : ℕ) → length (op ∷ ops) ≤ most
-    → ops_within most (vector_words (op ∷ ops)) ≡ Ok (op ∷ ops)
-unfolding ops_within
-ops_within-words op ops h zero le = absurd (omega arith)
-ops_within-words op [] h (suc most) le =
-    let at : op_at (op_words op) ≡ Ok (op, []) = ap op_at (sym (append-nil (op_words op))) ∙ op_at-words op [] h.0 in
-    rw at refl
-ops_within-words op (next ∷ ops) h (suc most) le =
-    let at = op_at-words op (codes ";" ∷ vector_words (next ∷ ops)) h.0 in
-    let ih = ops_within-words next ops h.1 most (omega arith) in
-    rw (at, ih) refl
+    rw s.spelled (behind-sound (ops_within most) (ops_within-sound most) b.0.0 b.0.1 ops b.2
+    s.lawful)
 
 -- each sub-operation has a word
 pub op_words_some : (o : SubOp) → 1 ≤ length (op_words o)
 op_words_some o = omega arith
 
-vector_words_enough : (ops : List SubOp) → length ops ≤ length (vector_words ops)
-vector_words_enough [] = omega arith
-vector_words_enough (op ∷ []) = omega (arith, op_words_some op)
-vector_words_enough (op ∷ next ∷ ops) =
-    omega (arith, op_words_some op, vector_words_enough (next ∷ ops), length-append (op_words op) (codes ";" ∷ vector_words (next ∷ ops)))
-
-if_vector-ok : (fault : Option BadVector) (ops vector : List SubOp) → if_vector fault ops ≡ Ok vector → (fault ≡ None) × (ops ≡ vector)
+if_vector-ok : (fault : Option BadVector) (ops vector : List SubOp)
+    → if_vector fault ops ≡ Ok vector → (fault ≡ None) × (ops ≡ vector)
 if_vector-ok None ops vector h = (refl, cc h)
 if_vector-ok (Some fault) ops vector h = cc h
 
-pub vector_of-sound : (writes : Bool) (words : List (List ℕ)) (ops : List SubOp) → vector_of writes words ≡ Ok ops
-    → (words ≡ vector_words ops) × All IsOp ops × (vector_fault ops ≡ None) × (is_of_kind writes ops ≡ true)
+pub vector_of-sound : (writes : Bool) (words : List (List ℕ)) (ops : List SubOp)
+    → vector_of writes words ≡ Ok ops
+    → (words ≡ vector_words ops) × All IsOp ops × (vector_fault ops ≡ None)
+    × (is_of_kind writes ops ≡ true)
 unfolding vector_of
 vector_of-sound writes words ops h =
     let b = bind_ok (ops_of words) _ ops h in
@@ -445,11 +360,3 @@ vector_of-sound writes words ops h =
     let all = All-from_recursion IsOp b.0 s.lawful in
     let same : b.0 ≡ ops = f.1 ∙ kind.1 in
     (rw (← same) s.spelled, rw (← same) all, rw (← same) f.0, rw (← kind.1) kind.0)
-
-pub vector_of-words : (writes : Bool) (ops : List SubOp) → All IsOp ops → vector_fault ops ≡ None → is_of_kind writes ops ≡ true
-    → vector_of writes (vector_words ops) ≡ Ok ops
-unfolding vector_of
-vector_of-words writes [] h f k = cc f
-vector_of-words writes (op ∷ ops) h f k =
-    let read = ops_within-words op ops (recursion_from_All IsOp (op ∷ ops) h) (length (vector_words (op ∷ ops))) (vector_words_enough (op ∷ ops)) in
-    rw (read, f, k) refl

@@ -1,46 +1,50 @@
 -- The outcome of reading lines is what a script is, and what its fault is.
-use Rattle.std.proofs.Common.{◌≡◌, ℕ, zero, suc, ◌+◌, ◌≤◌, Bool, true, false, MatchBool, List, [], ◌∷◌, ◌++◌, length, drop, nat_lt, Result, Ok, Err, if◌then◌else◌, refl, sym, ap, ◌∙◌, subst, arith}
-use Rattle.std.proofs.lemmas.Bool.Decides.{nat_tests}
+use Rattle.std.proofs.Common.{◌≡◌, ℕ, suc, ◌+◌, Bool, true, false, List, [], ◌∷◌, length, drop, Result, Ok, Err, if◌then◌else◌, refl, sym, subst, arith}
 use Rattle.script_lang.specs.declared.cause.Cause.{Cause}
-use Rattle.script_lang.specs.declared.cause.Cause.TheVariants.{Long, Lines}
 use Rattle.script_lang.specs.declared.line.Line.{Line}
 use Rattle.script_lang.specs.declared.line.Numbered.{Numbered}
 use Rattle.script_lang.specs.Contexts.{Context, moved, start}
-use Rattle.script_lang.specs.Scripts.{IsFault, IsFirstWrong, IsWhole, Reads, SaysFirst, is_passed, lines_of}
-use Rattle.script_lang.specs.Laws.{ReadingIsOne, ScriptHasNoFault, FaultIsOne}
+use Rattle.script_lang.specs.Scripts.{IsFirstWrong, Reads, is_passed}
 use Rattle.script_lang.specs.Outcomes.{Outcome, behind, outcome, told}
 use Rattle.script_lang.specs.Reading.{line_of}
-use Rattle.script_lang.proofs.Spelled.{line_of-sound, line_of-says}
+use Rattle.script_lang.proofs.Spelled.{line_of-sound}
 
 -- what lines behind a command said
-behind-ok : (first : Numbered) (others : Outcome) (said : List Numbered) → behind (first ∷ []) others ≡ Ok said
+behind-ok : (first : Numbered) (others : Outcome) (said : List Numbered)
+    → behind (first ∷ []) others ≡ Ok said
     → (more : List Numbered) × (others ≡ Ok more) × (first ∷ more ≡ said)
 behind-ok first (Ok more) said h = (more, refl, cc h)
 behind-ok first (Err wrong) said h = cc h
 
-behind-err : (first : Numbered) (others : Outcome) (wrong : ℕ × Cause) → behind (first ∷ []) others ≡ Err wrong → others ≡ Err wrong
+behind-err : (first : Numbered) (others : Outcome) (wrong : ℕ × Cause)
+    → behind (first ∷ []) others ≡ Err wrong → others ≡ Err wrong
 behind-err first (Ok more) wrong h = cc h
 behind-err first (Err w) wrong h = h
 
-told-ok : (number : ℕ) (line : Result Line Cause) (others : Line → Outcome) (said : List Numbered) → told number line others ≡ Ok said
-    → (l : Line) × (more : List Numbered) × (line ≡ Ok l) × (others l ≡ Ok more) × (record { number = number; line = l } ∷ more ≡ said)
+told-ok : (number : ℕ) (line : Result Line Cause) (others : Line → Outcome) (said : List Numbered)
+    → told number line others ≡ Ok said
+    → (l : Line) × (more : List Numbered) × (line ≡ Ok l) × (others l ≡ Ok more)
+    × (record { number = number; line = l } ∷ more ≡ said)
 told-ok number (Err why) others said h = cc h
 told-ok number (Ok l) others said h =
     let b = behind-ok (record { number = number; line = l }) (others l) said h in
     (l, b.0, refl, b.1, b.2)
 
 -- ---- what was read is said
-
 -- all lines say these, and there is a context behind them
-pub record ReadsAll (ctx : Context) (number : ℕ) (texts : List (List ℕ)) (said : List Numbered) : Type 0 where
+pub record ReadsAll (ctx : Context) (number : ℕ) (texts : List (List ℕ)) (said : List Numbered) :
+    Type 0 where
   pub last : Context
   pub reads : Reads ctx number (length texts) texts said last
 
-said_by_test : (ctx : Context) (number : ℕ) (text : List ℕ) (texts : List (List ℕ)) (said : List Numbered)
-    → ((c : Context) (said : List Numbered) → outcome c (number + 1) texts ≡ Ok said → ReadsAll c (number + 1) texts said)
+said_by_test : (ctx : Context) (number : ℕ) (text : List ℕ) (texts : List (List ℕ))
+    (said : List Numbered)
+    → ((c : Context) (said : List Numbered) → outcome c (number + 1) texts ≡ Ok said
+    → ReadsAll c (number + 1) texts said)
     → (passed : Bool) → is_passed text ≡ passed
     → (if passed then outcome ctx (number + 1) texts
-    else told number (line_of ctx texts text) (λ line. outcome (moved ctx line) (number + 1) texts)) ≡ Ok said
+    else told number (line_of ctx texts text) (λ line. outcome (moved ctx line) (number + 1) texts))
+    ≡ Ok said
     → ReadsAll ctx number (text ∷ texts) said
 said_by_test ctx number text texts said ih true is h =
     let r = ih ctx said h in
@@ -50,46 +54,26 @@ said_by_test ctx number text texts said ih false is h =
     let r = ih (moved ctx t.0) t.1 t.3 in
     let s = line_of-sound ctx texts text t.0 t.2 in
     let first : Numbered = record { number = number; line = t.0 } in
-    let read : Reads ctx number (suc (length texts)) (text ∷ texts) (first ∷ t.1) r.last = rw is (refl, s.says, s.place, r.reads) in
-    record {
-      last = r.last;
-      reads = subst (λ (x : List Numbered). Reads ctx number (suc (length texts)) (text ∷ texts) x r.last) t.4 read;
-    }
+    let read : Reads ctx number (suc (length texts)) (text ∷ texts) (first ∷ t.1) r.last =
+    rw is (refl, s.says, s.place, r.reads) in
+    let all : List Numbered → Type 0 =
+    λ x. Reads ctx number (suc (length texts)) (text ∷ texts) x r.last in
+    record { last = r.last; reads = subst all t.4 read }
 
-pub outcome-sound : (ctx : Context) (number : ℕ) (texts : List (List ℕ)) (said : List Numbered) → outcome ctx number texts ≡ Ok said
+pub outcome-sound : (ctx : Context) (number : ℕ) (texts : List (List ℕ)) (said : List Numbered)
+    → outcome ctx number texts ≡ Ok said
     → ReadsAll ctx number texts said
 unfolding outcome
-outcome-sound ctx number [] said h = let e : [] ≡ said = cc h in record { last = ctx; reads = (sym e, refl) }
+outcome-sound ctx number [] said h = let e : [] ≡ said =
+    cc h in record { last = ctx; reads = (sym e, refl) }
 outcome-sound ctx number (text ∷ texts) said h =
-    said_by_test ctx number text texts said (λ c said h. outcome-sound c (number + 1) texts said h) (is_passed text) refl h
-
--- ---- what is said is read
-
-read_by_test : (ctx last : Context) (number : ℕ) (text : List ℕ) (texts : List (List ℕ))
-    → ((c : Context) (said : List Numbered) → Reads c (number + 1) (length texts) texts said last → outcome c (number + 1) texts ≡ Ok said)
-    → (passed : Bool) (said : List Numbered)
-    → MatchBool passed (Reads ctx (number + 1) (length texts) texts said last)
-    (SaysFirst ctx number text texts (λ c others. Reads c (number + 1) (length texts) texts others last) said)
-    → (if passed then outcome ctx (number + 1) texts
-    else told number (line_of ctx texts text) (λ line. outcome (moved ctx line) (number + 1) texts)) ≡ Ok said
-read_by_test ctx last number text texts ih true said h = ih ctx said h
-read_by_test ctx last number text texts ih false [] h = absurd h
-read_by_test ctx last number text texts ih false (first ∷ others) h =
-    let line = line_of-says ctx texts text first.line h.1 h.2 in
-    let more = ih (moved ctx first.line) others h.3 in
-    rw (line, more, ← h.0) refl
-
-pub outcome-reads : (ctx last : Context) (number : ℕ) (texts : List (List ℕ)) (said : List Numbered)
-    → Reads ctx number (length texts) texts said last → outcome ctx number texts ≡ Ok said
-unfolding outcome
-outcome-reads ctx last number [] said h = rw h.0 refl
-outcome-reads ctx last number (text ∷ texts) said h =
-    read_by_test ctx last number text texts (λ c said h. outcome-reads c last (number + 1) texts said h) (is_passed text) said h
+    said_by_test ctx number text texts said (λ c said h. outcome-sound c (number + 1) texts said h)
+    (is_passed text) refl h
 
 -- ---- the first wrong line
-
 -- the first wrong line of lines, the first of them of this number and in this context
-pub record IsWrongFrom (first : Context) (number : ℕ) (texts : List (List ℕ)) (wrong : ℕ) (cause : Cause) : Type 0 where
+pub record IsWrongFrom (first : Context) (number : ℕ) (texts : List (List ℕ)) (wrong : ℕ)
+    (cause : Cause) : Type 0 where
   pub before : ℕ
   pub counted : wrong ≡ number + before
   pub said : List Numbered
@@ -101,7 +85,8 @@ pub record IsWrongFrom (first : Context) (number : ℕ) (texts : List (List ℕ)
   pub not_passed : is_passed text ≡ false
   pub wrong_text : line_of ctx behind text ≡ Err cause
 
-wrong_here : (ctx : Context) (number : ℕ) (text : List ℕ) (texts : List (List ℕ)) (cause : Cause) → is_passed text ≡ false
+wrong_here : (ctx : Context) (number : ℕ) (text : List ℕ) (texts : List (List ℕ)) (cause : Cause)
+    → is_passed text ≡ false
     → line_of ctx texts text ≡ Err cause → IsWrongFrom ctx number (text ∷ texts) number cause
 wrong_here ctx number text texts cause passed wrong =
     record {
@@ -118,8 +103,10 @@ wrong_here ctx number text texts cause passed wrong =
     }
 
 -- a right line before the others: one that is passed over, or one that says a command
-wrong_behind_passed : (ctx : Context) (number : ℕ) (text : List ℕ) (texts : List (List ℕ)) (wrong : ℕ) (cause : Cause)
-    → is_passed text ≡ true → IsWrongFrom ctx (number + 1) texts wrong cause → IsWrongFrom ctx number (text ∷ texts) wrong cause
+wrong_behind_passed : (ctx : Context) (number : ℕ) (text : List ℕ) (texts : List (List ℕ))
+    (wrong : ℕ) (cause : Cause)
+    → is_passed text ≡ true → IsWrongFrom ctx (number + 1) texts wrong cause
+    → IsWrongFrom ctx number (text ∷ texts) wrong cause
 wrong_behind_passed ctx number text texts wrong cause passed w =
     let counted = w.counted in
     let read : Reads ctx number (suc w.before) (text ∷ texts) w.said w.ctx = rw passed w.right in
@@ -136,14 +123,17 @@ wrong_behind_passed ctx number text texts wrong cause passed w =
       wrong_text = w.wrong_text;
     }
 
-wrong_behind_said : (ctx : Context) (number : ℕ) (text : List ℕ) (texts : List (List ℕ)) (wrong : ℕ) (cause : Cause) (line : Line)
-    → is_passed text ≡ false → line_of ctx texts text ≡ Ok line → IsWrongFrom (moved ctx line) (number + 1) texts wrong cause
+wrong_behind_said : (ctx : Context) (number : ℕ) (text : List ℕ) (texts : List (List ℕ)) (wrong : ℕ)
+    (cause : Cause) (line : Line)
+    → is_passed text ≡ false → line_of ctx texts text ≡ Ok line
+    → IsWrongFrom (moved ctx line) (number + 1) texts wrong cause
     → IsWrongFrom ctx number (text ∷ texts) wrong cause
 wrong_behind_said ctx number text texts wrong cause line passed says w =
     let counted = w.counted in
     let s = line_of-sound ctx texts text line says in
     let said : List Numbered = record { number = number; line = line } ∷ w.said in
-    let read : Reads ctx number (suc w.before) (text ∷ texts) said w.ctx = rw passed (refl, s.says, s.place, w.right) in
+    let read : Reads ctx number (suc w.before) (text ∷ texts) said w.ctx =
+    rw passed (refl, s.says, s.place, w.right) in
     record {
       before = suc w.before;
       counted = omega arith;
@@ -157,8 +147,10 @@ wrong_behind_said ctx number text texts wrong cause line passed says w =
       wrong_text = w.wrong_text;
     }
 
-told_wrong : (ctx : Context) (number : ℕ) (text : List ℕ) (texts : List (List ℕ)) (wrong : ℕ × Cause)
-    → ((c : Context) (wrong : ℕ × Cause) → outcome c (number + 1) texts ≡ Err wrong → IsWrongFrom c (number + 1) texts wrong.0 wrong.1)
+told_wrong : (ctx : Context) (number : ℕ) (text : List ℕ) (texts : List (List ℕ)) (wrong : ℕ
+    × Cause)
+    → ((c : Context) (wrong : ℕ × Cause) → outcome c (number + 1) texts ≡ Err wrong
+    → IsWrongFrom c (number + 1) texts wrong.0 wrong.1)
     → is_passed text ≡ false → (line : Result Line Cause) → line_of ctx texts text ≡ line
     → told number line (λ line. outcome (moved ctx line) (number + 1) texts) ≡ Err wrong
     → IsWrongFrom ctx number (text ∷ texts) wrong.0 wrong.1
@@ -167,61 +159,36 @@ told_wrong ctx number text texts wrong ih passed (Err why) says h =
     rw (← e) (wrong_here ctx number text texts why passed says)
 told_wrong ctx number text texts wrong ih passed (Ok line) says h =
     wrong_behind_said ctx number text texts wrong.0 wrong.1 line passed says
-    (ih (moved ctx line) wrong (behind-err (record { number = number; line = line }) (outcome (moved ctx line) (number + 1) texts) wrong h))
+    (ih (moved ctx line) wrong (behind-err (record {
+      number = number;
+      line = line;
+    }) (outcome (moved ctx line) (number + 1) texts) wrong h))
 
-wrong_by_test : (ctx : Context) (number : ℕ) (text : List ℕ) (texts : List (List ℕ)) (wrong : ℕ × Cause)
-    → ((c : Context) (wrong : ℕ × Cause) → outcome c (number + 1) texts ≡ Err wrong → IsWrongFrom c (number + 1) texts wrong.0 wrong.1)
+wrong_by_test : (ctx : Context) (number : ℕ) (text : List ℕ) (texts : List (List ℕ)) (wrong : ℕ
+    × Cause)
+    → ((c : Context) (wrong : ℕ × Cause) → outcome c (number + 1) texts ≡ Err wrong
+    → IsWrongFrom c (number + 1) texts wrong.0 wrong.1)
     → (passed : Bool) → is_passed text ≡ passed
     → (if passed then outcome ctx (number + 1) texts
-    else told number (line_of ctx texts text) (λ line. outcome (moved ctx line) (number + 1) texts)) ≡ Err wrong
+    else told number (line_of ctx texts text) (λ line. outcome (moved ctx line) (number + 1) texts))
+    ≡ Err wrong
     → IsWrongFrom ctx number (text ∷ texts) wrong.0 wrong.1
-wrong_by_test ctx number text texts wrong ih true is h = wrong_behind_passed ctx number text texts wrong.0 wrong.1 is (ih ctx wrong h)
-wrong_by_test ctx number text texts wrong ih false is h = told_wrong ctx number text texts wrong ih is (line_of ctx texts text) refl h
+wrong_by_test ctx number text texts wrong ih true is h =
+    wrong_behind_passed ctx number text texts wrong.0 wrong.1 is (ih ctx wrong h)
+wrong_by_test ctx number text texts wrong ih false is h =
+    told_wrong ctx number text texts wrong ih is (line_of ctx texts text) refl h
 
-outcome-wrong : (ctx : Context) (number : ℕ) (texts : List (List ℕ)) (wrong : ℕ × Cause) → outcome ctx number texts ≡ Err wrong
+outcome-wrong : (ctx : Context) (number : ℕ) (texts : List (List ℕ)) (wrong : ℕ × Cause)
+    → outcome ctx number texts ≡ Err wrong
     → IsWrongFrom ctx number texts wrong.0 wrong.1
 unfolding outcome
 outcome-wrong ctx number [] wrong h = cc h
 outcome-wrong ctx number (text ∷ texts) wrong h =
-    wrong_by_test ctx number text texts wrong (λ c wrong h. outcome-wrong c (number + 1) texts wrong h) (is_passed text) refl h
+    wrong_by_test ctx number text texts wrong
+    (λ c wrong h. outcome-wrong c (number + 1) texts wrong h) (is_passed text) refl h
 
--- a wrong line behind right ones is the outcome
-wrong_outcome_by_test : (ctx last : Context) (number : ℕ) (text : List ℕ) (texts : List (List ℕ)) (before : ℕ) (cause : Cause)
-    → ((c : Context) (said : List Numbered) → Reads c (number + 1) before texts said last
-    → outcome c (number + 1) texts ≡ Err (number + 1 + before, cause))
-    → (passed : Bool) (said : List Numbered)
-    → MatchBool passed (Reads ctx (number + 1) before texts said last)
-    (SaysFirst ctx number text texts (λ c others. Reads c (number + 1) before texts others last) said)
-    → (if passed then outcome ctx (number + 1) texts
-    else told number (line_of ctx texts text) (λ line. outcome (moved ctx line) (number + 1) texts)) ≡ Err (number + 1 + before, cause)
-wrong_outcome_by_test ctx last number text texts before cause ih true said h = ih ctx said h
-wrong_outcome_by_test ctx last number text texts before cause ih false [] h = absurd h
-wrong_outcome_by_test ctx last number text texts before cause ih false (first ∷ others) h =
-    let line = line_of-says ctx texts text first.line h.1 h.2 in
-    let more = ih (moved ctx first.line) others h.3 in
-    rw (line, more) refl
-
-from_wrong : (ctx last : Context) (number : ℕ) (texts : List (List ℕ)) (before : ℕ) (said : List Numbered) (text : List ℕ)
-    (rest : List (List ℕ)) (cause : Cause) → Reads ctx number before texts said last → drop before texts ≡ text ∷ rest
-    → is_passed text ≡ false → line_of last rest text ≡ Err cause → outcome ctx number texts ≡ Err (number + before, cause)
-unfolding outcome
-from_wrong ctx last number [] zero said text rest cause h t p w = cc t
-from_wrong ctx last number [] (suc before) said text rest cause h t p w = absurd h
-from_wrong ctx last number (first ∷ texts) zero said text rest cause h t p w =
-    let e : first ≡ text = cc t in
-    let r : texts ≡ rest = cc t in
-    let passed : is_passed first ≡ false = rw e p in
-    let wrong : line_of ctx texts first ≡ Err cause = rw (e, r, ← h.1) w in
-    let same : number ≡ number + 0 = omega arith in
-    rw (passed, wrong) (ap (λ (n : ℕ). Err (n, cause)) same)
-from_wrong ctx last number (first ∷ texts) (suc before) said text rest cause h t p w =
-    let same : number + 1 + before ≡ number + suc before = omega arith in
-    wrong_outcome_by_test ctx last number first texts before cause
-    (λ c said h. from_wrong c last (number + 1) texts before said text rest cause h t p w)
-    (is_passed first) said h
-    ∙ ap (λ (n : ℕ). Err (n, cause)) same
-
-pub IsFirstWrong-from_outcome : (texts : List (List ℕ)) (wrong : ℕ) (cause : Cause) → outcome start 1 texts ≡ Err (wrong, cause)
+pub IsFirstWrong-from_outcome : (texts : List (List ℕ)) (wrong : ℕ) (cause : Cause)
+    → outcome start 1 texts ≡ Err (wrong, cause)
     → IsFirstWrong texts wrong cause
 IsFirstWrong-from_outcome texts wrong cause h =
     let w = outcome-wrong start 1 texts (wrong, cause) h in
@@ -238,53 +205,3 @@ IsFirstWrong-from_outcome texts wrong cause h =
       not_passed = w.not_passed;
       wrong = w.wrong_text;
     }
-
-pub outcome-first_wrong : (texts : List (List ℕ)) (wrong : ℕ) (cause : Cause) → IsFirstWrong texts wrong cause
-    → outcome start 1 texts ≡ Err (wrong, cause)
-outcome-first_wrong texts wrong cause w =
-    let counted = w.counted in
-    let same : 1 + w.before ≡ wrong = omega arith in
-    from_wrong start w.ctx 1 texts w.before w.said w.text w.behind cause w.right w.there w.not_passed w.wrong
-    ∙ ap (λ (n : ℕ). Err (n, cause)) same
-
--- ---- the laws
-
-pub reading_is_one : (bytes : List ℕ) → ReadingIsOne bytes
-reading_is_one bytes one other a b =
-    let first = outcome-reads start a.ctx 1 (lines_of bytes) one a.reads in
-    let second = outcome-reads start b.ctx 1 (lines_of bytes) other b.reads in
-    cc
-
-no_whole : (bytes : List ℕ) (line : ℕ) (cause : Cause) (long many : Bool) → long ≡ false → many ≡ false
-    → MatchBool long (IsWhole line cause Long) (MatchBool many (IsWhole line cause Lines) (IsFirstWrong (lines_of bytes) line cause))
-    → IsFirstWrong (lines_of bytes) line cause
-no_whole bytes line cause false false a b f = f
-no_whole bytes line cause false true a b f = cc b
-no_whole bytes line cause true many a b f = cc a
-
-pub script_has_no_fault : (bytes : List ℕ) → ScriptHasNoFault bytes
-script_has_no_fault bytes said line cause s f =
-    let short = s.limits.short in
-    let few = s.limits.few in
-    let long : nat_lt 268435456 (length bytes) ≡ false = grind (arith, nat_tests) in
-    let many : nat_lt 1000000 (length (lines_of bytes)) ≡ false = grind (arith, nat_tests) in
-    let wrong : IsFirstWrong (lines_of bytes) line cause = no_whole bytes line cause _ _ long many f in
-    let read = outcome-reads start s.ctx 1 (lines_of bytes) said s.reads in
-    let not_read = outcome-first_wrong (lines_of bytes) line cause wrong in
-    cc
-
-one_by_tests : (bytes : List ℕ) (line other : ℕ) (cause other_cause : Cause) (long many : Bool)
-    → MatchBool long (IsWhole line cause Long) (MatchBool many (IsWhole line cause Lines) (IsFirstWrong (lines_of bytes) line cause))
-    → MatchBool long (IsWhole other other_cause Long) (MatchBool many (IsWhole other other_cause Lines) (IsFirstWrong (lines_of bytes) other other_cause))
-    → (line ≡ other) × (cause ≡ other_cause)
-one_by_tests bytes line other cause other_cause true many f g = (f.0 ∙ sym g.0, f.1 ∙ sym g.1)
-one_by_tests bytes line other cause other_cause false true f g = (f.0 ∙ sym g.0, f.1 ∙ sym g.1)
-one_by_tests bytes line other cause other_cause false false f g =
-    let first = outcome-first_wrong (lines_of bytes) line cause f in
-    let second = outcome-first_wrong (lines_of bytes) other other_cause g in
-    let same : (line, cause) ≡ (other, other_cause) = cc in
-    (ap (λ (p : ℕ × Cause). p.0) same, ap (λ (p : ℕ × Cause). p.1) same)
-
-pub fault_is_one : (bytes : List ℕ) → FaultIsOne bytes
-fault_is_one bytes line other cause other_cause f g =
-    one_by_tests bytes line other cause other_cause (nat_lt 268435456 (length bytes)) (nat_lt 1000000 (length (lines_of bytes))) f g

@@ -23,12 +23,14 @@ is_among client clients = list_any (λ c. c == client) clients
 -- the clients of a block with one more, which counts once
 abbrev pub joined : ℕ → Option (List ℕ) → Option (List ℕ)
 joined client None = None
-joined client (Some clients) = Some (if is_among client clients then clients else clients ++ client ∷ [])
+joined client (Some clients) =
+    Some (if is_among client clients then clients else clients ++ client ∷ [])
 
 -- the context behind a line
 abbrev pub moved : Context → Line → Context
 moved ctx (line.Op req) = record { moment = ctx.moment; block = joined req.client ctx.block }
-moved ctx (line.Get client name vector) = record { moment = ctx.moment; block = joined client ctx.block }
+moved ctx (line.Get client name vector) =
+    record { moment = ctx.moment; block = joined client ctx.block }
 moved ctx (line.SetTime moment) = record { moment = moment; block = ctx.block }
 moved ctx line.Par = record { moment = ctx.moment; block = Some [] }
 moved ctx line.End = record { moment = ctx.moment; block = None }
@@ -42,8 +44,8 @@ has_end texts = list_any (λ text. bytes_eq text (line_word verb.End)) texts
 abbrev pub has_room : ℕ → List ℕ → Bool
 has_room client clients = is_among client clients || nat_lt (length clients) 16
 
--- The line may stand in this block, or outside one, with these lines behind it: a block has requests and readings of at
--- most 16 clients, and is ended.
+-- The line may stand in this block, or outside one, with these lines behind it: a block has
+-- requests and readings of at most 16 clients, and is ended.
 abbrev pub is_in_place : Option (List ℕ) → List (List ℕ) → Line → Bool
 is_in_place None texts line.Par = has_end texts
 is_in_place None texts line.End = false
@@ -66,5 +68,5 @@ pub record MayStand (ctx : Context) (texts : List (List ℕ)) (said : Line) : Ty
 -- how a context is written down as a value of contracts
 abbrev pub coded_context : Coded Context
 coded_context =
-    code_by (ℕ × Option (List ℕ)) (coded× coded_ℕ (coded_option (coded_list coded_ℕ))) (λ c. (c.moment, c.block))
-    (λ p. record { moment = p.0; block = p.1 }) (λ _. refl)
+    code_by (ℕ × Option (List ℕ)) (coded× coded_ℕ (coded_option (coded_list coded_ℕ)))
+    (λ c. (c.moment, c.block)) (λ p. record { moment = p.0; block = p.1 }) (λ _. refl)

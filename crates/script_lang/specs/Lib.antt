@@ -1,7 +1,7 @@
 pub mod Verbs
 pub mod Spelling
+pub mod Printing
 pub mod Contexts
 pub mod Reading
 pub mod Scripts
-pub mod Laws
 pub mod Outcomes

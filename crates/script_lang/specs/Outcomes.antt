@@ -55,11 +55,14 @@ outcome ctx number (text ∷ texts) =
     if is_passed text then outcome ctx (number + 1) texts
     else told number (line_of ctx texts text) (λ line. outcome (moved ctx line) (number + 1) texts)
 
--- the first line, of this number, was read: the commands before it and it are these, and this is the context behind it
-abbrev pub Advances : List Numbered → List Numbered → Context → Context → ℕ → List ℕ → List (List ℕ) → Type 0
+-- the first line, of this number, was read: the commands before it and it are these, and this is
+-- the context behind it
+abbrev pub Advances : List Numbered → List Numbered → Context → Context → ℕ → List ℕ → List (List ℕ)
+    → Type 0
 Advances before now ctx next number text texts =
     behind before (outcome ctx number (text ∷ texts)) ≡ behind now (outcome next (number + 1) texts)
 
 -- the first line, of this number, was not read, behind these commands
 abbrev pub Halts : ScriptFault → List Numbered → Context → ℕ → List ℕ → List (List ℕ) → Type 0
-Halts fault before ctx number text texts = Shows fault (behind before (outcome ctx number (text ∷ texts)))
+Halts fault before ctx number text texts =
+    Shows fault (behind before (outcome ctx number (text ∷ texts)))

@@ -1,5 +1,5 @@
 -- What the words of a line say, or the first cause from the left why they say nothing.
-use Rattle.std.specs.Prelude.{◌≡◌, ◌≤◌, ℕ, zero, suc, ◌^◌, ◌==◌, ◌&&◌, ◌||◌, not, nat_le, nat_lt, Bool, true, false, List, [], ◌∷◌, length, slice_index, Option, Some, None, Result, Ok, Err, if◌then◌else◌, bytes_eq, codes}
+use Rattle.std.specs.Prelude.{ℕ, zero, suc, ◌^◌, ◌==◌, ◌&&◌, ◌||◌, not, nat_le, nat_lt, Bool, true, false, List, [], ◌∷◌, length, slice_index, Option, Some, None, Result, Ok, Err, if◌then◌else◌, bytes_eq, codes}
 use Rattle.std.specs.List.{slice_split, list_all, list_any}
 use Rattle.std.specs.Option.{option_map}
 use Rattle.std.specs.Result.{result_ok}
@@ -114,7 +114,8 @@ is_numeral word = nat_le 1 (length word) && nat_le (length word) 19 && list_all 
 
 -- the number of a word, if it is one of at most 2^62
 unfoldable pub number_of : List ℕ → Option ℕ
-number_of word = where_true (is_numeral word && nat_le (digits_value 10 word) (2 ^ 62)) (digits_value 10 word)
+number_of word =
+    where_true (is_numeral word && nat_le (digits_value 10 word) (2 ^ 62)) (digits_value 10 word)
 
 -- a hexadecimal digit, in lower case
 abbrev pub is_lower_digit : ℕ → Bool
@@ -180,11 +181,13 @@ abbrev pub alone : SubOp → List (List ℕ) → Result TakenOp Cause
 alone o words = Ok (o, words)
 
 -- a sub-operation of one field
-abbrev pub of_one : {A : Type 0} → (List (List ℕ) → Result A Cause) → (A → SubOp) → List (List ℕ) → Result TakenOp Cause
+abbrev pub of_one : {A : Type 0} → (List (List ℕ) → Result A Cause) → (A → SubOp) → List (List ℕ)
+    → Result TakenOp Cause
 of_one read make words = read words >>= λ x. Ok (make x, rest_of words)
 
 -- a sub-operation of two fields
-abbrev pub of_two : {A B : Type 0} → (List (List ℕ) → Result A Cause) → (List (List ℕ) → Result B Cause) → (A → B → SubOp)
+abbrev pub of_two : {A B : Type 0} → (List (List ℕ) → Result A Cause)
+    → (List (List ℕ) → Result B Cause) → (A → B → SubOp)
     → List (List ℕ) → Result TakenOp Cause
 of_two first second make words =
     first words >>= λ x. second (rest_of words) >>= λ y. Ok (make x y, rest_of (rest_of words))
@@ -229,9 +232,11 @@ put_first o (Err why) = Err why
 put_first o (Ok ops) = Ok (o ∷ ops)
 
 -- a sub-operation is the last one, or a semicolon follows, and others that the rest says
-abbrev pub ops_behind : (List (List ℕ) → Result (List SubOp) Cause) → SubOp → List (List ℕ) → Result (List SubOp) Cause
+abbrev pub ops_behind : (List (List ℕ) → Result (List SubOp) Cause) → SubOp → List (List ℕ)
+    → Result (List SubOp) Cause
 ops_behind others o [] = Ok (o ∷ [])
-ops_behind others o (word ∷ words) = if bytes_eq word (codes ";") then put_first o (others words) else Err cause.Words
+ops_behind others o (word ∷ words) = if bytes_eq word (codes ";") then put_first o (others words)
+    else Err cause.Words
 
 -- the sub-operations that words say, at most so many
 unfoldable pub ops_within : ℕ → List (List ℕ) → Result (List SubOp) Cause
@@ -263,7 +268,8 @@ is_of_kind false ops = not (list_any is_write ops)
 -- the vector that words say, of a request or of a reading
 unfoldable pub vector_of : Bool → List (List ℕ) → Result (List SubOp) Cause
 vector_of writes words =
-    ops_of words >>= λ ops. if_vector (vector_fault ops) ops >>= λ vector. only_if (is_of_kind writes vector) (cause.Mixed 0) vector
+    ops_of words >>= λ ops. if_vector (vector_fault ops) ops >>= λ vector.
+    only_if (is_of_kind writes vector) (cause.Mixed 0) vector
 
 -- ---- lines
 
@@ -334,7 +340,8 @@ moment_of least moment = only_if (nat_le least moment) cause.Time moment
 -- what a `time` line says behind its verb
 abbrev pub time_line : ℕ → List (List ℕ) → Result Line Cause
 time_line least words =
-    line_number_at words >>= λ number. moment_of least number >>= λ moment. ended (line.SetTime moment) (rest_of words)
+    line_number_at words >>= λ number. moment_of least number >>= λ moment.
+    ended (line.SetTime moment) (rest_of words)
 
 -- what a line of this verb says behind it, no moment below this one
 abbrev pub line_by : ℕ → LineVerb → List (List ℕ) → Result Line Cause
@@ -355,7 +362,8 @@ line_by least begins.End words = ended line.End words
 
 -- what a line says that begins with this word
 abbrev pub line_from : ℕ → List (List ℕ) → List ℕ → Result Line Cause
-line_from least words word = or_cause (unknown word cause.Verb) (line_verb_of word) >>= λ v. line_by least v words
+line_from least words word =
+    or_cause (unknown word cause.Verb) (line_verb_of word) >>= λ v. line_by least v words
 
 -- what the words of a line say
 abbrev pub line_at : ℕ → List (List ℕ) → Result Line Cause
@@ -369,8 +377,9 @@ is_odd_byte b = nat_lt b 0x20 || nat_lt 0x7e b
 abbrev pub placed : Option (List ℕ) → List (List ℕ) → Line → Result Line Cause
 placed block texts said = only_if (is_in_place block texts said) cause.Par said
 
--- What a text, without its newline, says in this context before these lines; or the cause why it says nothing. The bytes come
--- first, then the words from the left, then the vector as a whole, then the block.
+-- What a text, without its newline, says in this context before these lines; or the cause why it
+-- says nothing. The bytes come first, then the words from the left, then the vector as a whole,
+-- then the block.
 unfoldable pub line_of : Context → List (List ℕ) → List ℕ → Result Line Cause
 line_of ctx texts text =
     if list_any is_odd_byte text then Err cause.Byte

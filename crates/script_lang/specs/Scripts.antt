@@ -1,5 +1,5 @@
 -- What a script is, and the fault of a text that is none.
-use Rattle.std.specs.Prelude.{◌≡◌, ◌≤◌, ℕ, zero, suc, ◌+◌, Bool, true, false, List, [], ◌∷◌, length, drop, Result, Err, if◌then◌else◌, ◌==◌, nat_lt, MatchBool}
+use Rattle.std.specs.Prelude.{◌≡◌, ◌≤◌, ℕ, zero, suc, ◌+◌, Bool, true, false, List, [], ◌∷◌, length, drop, Err, if◌then◌else◌, ◌==◌, nat_lt, MatchBool}
 use Rattle.script_lang.specs.declared.line.Numbered.{Numbered}
 use Rattle.script_lang.specs.declared.cause.Cause.{Cause}
 use Rattle.script_lang.specs.declared.cause.Cause.TheVariants.{Long, Lines}
@@ -14,7 +14,8 @@ abbrev pub in_front : ℕ → List (List ℕ) → List (List ℕ)
 in_front b [] = (b ∷ []) ∷ []
 in_front b (line ∷ lines) = (b ∷ line) ∷ lines
 
--- the lines of a text: what stands before each newline, and what stands behind the last one if that is not empty
+-- the lines of a text: what stands before each newline, and what stands behind the last one if that
+-- is not empty
 abbrev pub lines_of : List ℕ → List (List ℕ)
 lines_of [] = []
 lines_of (b ∷ bytes) = if b == 0x0a then [] ∷ lines_of bytes else in_front b (lines_of bytes)
@@ -24,21 +25,25 @@ abbrev pub is_passed : List ℕ → Bool
 is_passed [] = true
 is_passed (b ∷ text) = b == 0x23
 
--- The first of these is the line of this number: the text says it, and it may stand in this context before these lines.
--- The others satisfy the rest, in the context behind it.
-abbrev pub SaysFirst : Context → ℕ → List ℕ → List (List ℕ) → (Context → List Numbered → Type 0) → List Numbered → Type 0
+-- The first of these is the line of this number: the text says it, and it may stand in this context
+-- before these lines. The others satisfy the rest, in the context behind it.
+abbrev pub SaysFirst : Context → ℕ → List ℕ → List (List ℕ) → (Context → List Numbered → Type 0)
+    → List Numbered → Type 0
 SaysFirst ctx number text texts Rest [] = ⊥
 SaysFirst ctx number text texts Rest (first ∷ others) =
-    (first.number ≡ number) × Says text first.line × MayStand ctx texts first.line × Rest (moved ctx first.line) others
+    (first.number ≡ number) × Says text first.line × MayStand ctx texts first.line
+    × Rest (moved ctx first.line) others
 
--- so many lines, the first of them of this number and in this context, say these, and this is the context behind them
+-- so many lines, the first of them of this number and in this context, say these, and this is the
+-- context behind them
 abbrev pub Reads : Context → ℕ → (count : ℕ) → List (List ℕ) → List Numbered → Context → Type 0
 Reads ctx number zero texts said behind = (said ≡ []) × (behind ≡ ctx)
 Reads ctx number (suc count) [] said behind = ⊥
 Reads ctx number (suc count) (text ∷ texts) said behind =
     MatchBool (is_passed text)
     (Reads ctx (number + 1) count texts said behind)
-    (SaysFirst ctx number text texts (λ c others. Reads c (number + 1) count texts others behind) said)
+    (SaysFirst ctx number text texts (λ c others. Reads c (number + 1) count texts others behind)
+    said)
 
 -- the lines before this number are right, and the line of this number is wrong, for this cause
 pub record IsFirstWrong (texts : List (List ℕ)) (number : ℕ) (cause : Cause) : Type 0 where

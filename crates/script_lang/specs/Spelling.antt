@@ -90,7 +90,8 @@ mode_word Proxy = codes "proxy"
 abbrev pub line_words : Line → List (List ℕ)
 line_words (line.Op req) =
     line_word verb.Op ∷ decimal req.client ∷ decimal req.tid ∷ req.name ∷ vector_words req.vector
-line_words (line.Get client name vector) = line_word verb.Get ∷ decimal client ∷ name ∷ vector_words vector
+line_words (line.Get client name vector) =
+    line_word verb.Get ∷ decimal client ∷ name ∷ vector_words vector
 line_words (line.Flush name) = line_word verb.Flush ∷ name ∷ []
 line_words (line.Tryflush name) = line_word verb.Tryflush ∷ name ∷ []
 line_words (line.BeginFlush name) = line_word verb.Begin ∷ line_word verb.Flush ∷ name ∷ []
@@ -129,8 +130,10 @@ IsName name = name_fault name ≡ None
 -- a line that can be spelled; a request writes, and a reading does not
 abbrev pub IsLine : Line → Type 0
 IsLine (line.Op req) =
-    IsAddressed req.client req.name req.vector × (req.tid ≤ 2 ^ 62) × (list_any is_write req.vector ≡ true)
-IsLine (line.Get client name vector) = IsAddressed client name vector × (list_any is_write vector ≡ false)
+    IsAddressed req.client req.name req.vector × (req.tid ≤ 2 ^ 62)
+    × (list_any is_write req.vector ≡ true)
+IsLine (line.Get client name vector) = IsAddressed client name vector
+    × (list_any is_write vector ≡ false)
 IsLine (line.Flush name) = IsName name
 IsLine (line.Tryflush name) = IsName name
 IsLine (line.BeginFlush name) = IsName name

@@ -22,7 +22,9 @@ pub const LINES_LIMIT: usize = 1_000_000;
 
 /// Reads a whole script. It takes time and memory in proportion to the text.
 pub fn read_script(alloc: Global, bytes: &[u8]) -> Result<Vec<Numbered>, ScriptFault>
-    ensures { MatchResult result (λ lines. IsScript bytes.now lines.items) (λ fault. Explains bytes.now fault) }
+    ensures { MatchResult result
+        (λ lines. IsScript bytes.now lines.items)
+        (λ fault. Explains bytes.now fault) }
 {
     if bytes.len() > LENGTH_LIMIT {
         return Err(ScriptFault::Bad {
@@ -70,7 +72,8 @@ fn read_next(
     behind: &[u8],
 ) -> Result<(), ScriptFault>
     ensures { MatchResult result
-        (λ _. Advances lines.old.items lines.new.items context.old context.new number text.now (lines_of behind.now))
+        (λ _. Advances lines.old.items lines.new.items context.old context.new number text.now
+        (lines_of behind.now))
         (λ fault. Halts fault lines.old.items context.old number text.now (lines_of behind.now)) }
 {
     if is_passed(text) {
@@ -116,7 +119,8 @@ fn push_line(
     line: Line,
 ) -> Result<(), ScriptFault>
     ensures { MatchResult result
-        (λ _. (lines.new.items ≡ lines.old.items ++ record { number = number; line = line } ∷ []) × (context.new ≡ moved context.old line))
+        (λ _. (lines.new.items ≡ lines.old.items ++ record { number = number; line = line } ∷ [])
+        × (context.new ≡ moved context.old line))
         (λ fault. fault ≡ NoMemory) }
 {
     if context.move_behind(alloc, &line).is_err() {

@@ -4,7 +4,7 @@ ghost use Rattle.script_lang.specs.Verbs.{line_verb_among, line_verb_of, line_wo
 
 /// The verb of a line.
 #[derive(Clone, Copy, Debug, PartialEq, Eq)]
-pub(crate) enum LineVerb {
+pub enum LineVerb {
     Op,
     Get,
     Flush,
@@ -23,7 +23,7 @@ pub(crate) enum LineVerb {
 
 /// The verb of a sub-operation.
 #[derive(Clone, Copy, Debug, PartialEq, Eq)]
-pub(crate) enum OpVerb {
+pub enum OpVerb {
     Create,
     WriteFull,
     Write,

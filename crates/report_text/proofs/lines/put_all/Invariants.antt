@@ -5,4 +5,5 @@ use Rattle.report_text.proofs.lines.put_all.Given as goal
 
 -- the texts so far stand behind the others
 abbrev pub invariant-loop-next : goal.invariant-loop-next
-invariant-loop-next l = l.text ≡ l.initial.text ++ flat_map (next_told_text l.paths) (take l.next-index l.others)
+invariant-loop-next l =
+    l.text ≡ l.initial.text ++ flat_map (next_told_text l.paths) (take l.next-index l.others)

@@ -7,4 +7,5 @@ use Rattle.script_lang.proofs.read.read_lines.Goals as goal
 pub returns : goal.returns
 returns c =
     let none : length c.loop-rest.rest.now ≡ 0 = grind (arith, nat_tests) in
-    gone_all c.loop-rest.lines.items c.loop-rest.context c.loop-rest.number c.loop-rest.rest.now c.args.text.now c.loop-rest.invariant none
+    gone_all c.loop-rest.lines.items c.loop-rest.context c.loop-rest.number c.loop-rest.rest.now
+    c.args.text.now c.loop-rest.invariant none

@@ -7,4 +7,5 @@ use Rattle.script_lang.proofs.words.cut.Goals as goal
 pub returns-in-Some : goal.returns-in-Some
 returns-in-Some c =
     words_at_space c.args.text.now c.in-Some.at (sym c.in-Some.ensures.place)
-    ∙ ap (λ (l : List ℕ). take c.in-Some.at c.args.text.now ∷ words_of l) (sym (rest_of_slice c.args.text.now (c.in-Some.at + 1)))
+    ∙ ap (λ (l : List ℕ). take c.in-Some.at c.args.text.now ∷ words_of l)
+    (sym (rest_of_slice c.args.text.now (c.in-Some.at + 1)))

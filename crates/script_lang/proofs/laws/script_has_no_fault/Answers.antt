@@ -1,5 +1,0 @@
-use Rattle.script_lang.proofs.Texts.{script_has_no_fault}
-use Rattle.script_lang.proofs.laws.script_has_no_fault.Goals as goal
-
-pub returns : goal.returns
-returns c = script_has_no_fault c.args._bytes.now

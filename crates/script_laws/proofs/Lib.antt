@@ -1,0 +1,6 @@
+pub mod ReadOps
+pub mod ReadLines
+pub mod ReadTexts
+pub mod Unique
+pub mod Widths
+pub mod Rereading
