@@ -49,12 +49,25 @@ fn two(alloc: Global, first: Change, second: Change) -> Result<Vec<Change>, NoMe
     Ok(changes)
 }
 
-// Prepares one change, or two.
+// One change, or two.
+fn changes(alloc: Global, words: &str) -> Result<Vec<Change>, Fail>
+    ensures { IfOk result (λ changes. AreApart changes.items) }
+{
+    match words.split_once(' ') {
+        None => {
+            let change = change(alloc, words)?;
+            Ok(one(alloc, change)?)
+        }
+        Some((first, second)) => {
+            let first = change(alloc, first)?;
+            let second = change(alloc, second)?;
+            Ok(two(alloc, first, second)?)
+        }
+    }
+}
+
 fn prepare(alloc: Global, map: &mut PoolMap, words: &str) -> Result<(), Fail> {
-    let changes = match words.split_once(' ') {
-        None => one(alloc, change(alloc, words)?)?,
-        Some((first, second)) => two(alloc, change(alloc, first)?, change(alloc, second)?)?,
-    };
+    let changes = changes(alloc, words)?;
     map.prepare(changes)?;
     Ok(())
 }
