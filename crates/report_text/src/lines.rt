@@ -25,12 +25,7 @@ pub fn answer_text(
 }
 
 /// Puts the line of a client's call that one group answered behind a text, without its path.
-pub fn put_call(
-    text: &mut Text,
-    number: u32,
-    answer: &Answer,
-    place: u64,
-) -> Result<(), NoMemory>
+pub fn put_call(text: &mut Text, number: u32, answer: &Answer, place: u64) -> Result<(), NoMemory>
     ensures { OnOk result (text.new ≡ text.old ++ call_text number place answer.now) }
 {
     text.push_number(u64::from(number))?;

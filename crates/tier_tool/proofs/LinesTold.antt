@@ -20,7 +20,8 @@ use Rattle.tier_tool.specs.Steps.Telling.{ToldSoFar, Words}
 use Rattle.tier_tool.specs.Tasks.{name_of}
 use Rattle.tier_tool.specs.declared.task.Numbered.{Numbered}
 use Rattle.tier_tool.proofs.Said.{same_map}
-use Rattle.tier_tool.proofs.Views.{At, goes_further, nothing_came, now_same, now_then, now_weaker}
+use Rattle.tier_tool.proofs.Views.{At, goes_further, nothing_came, now_same, now_then}
+use Rattle.tier_tool.proofs.Views.{now_two, now_weaker}
 
 -- ---- lines, one after another
 

@@ -16,17 +16,16 @@ use Rattle.store_face.specs.Views.{CrashMaps, Durable, alone, no_map}
 use Rattle.store_face.specs.Views as store
 use Rattle.tier_outside.specs.Causes.{Rose}
 use Rattle.tier_outside.specs.Disk.{DiskMoment, EachImage, IsImage}
-use Rattle.tier_outside.specs.DiskMoments.{Now, last, grown, Leaves, SomeImage}
+use Rattle.tier_outside.specs.DiskMoments.{last, grown, Leaves, SomeImage}
 use Rattle.tier_outside.proofs.DiskMoments.{now_since, now_weaker}
-use Rattle.tier_outside.specs.Streams.{Gains}
 use Rattle.tier_tool.specs.Bases.{StandsFor}
-use Rattle.tier_tool.specs.Lines.{Ending, IsLeft, LineSays, Said, Says, Standing, behind_line}
+use Rattle.tier_tool.specs.Lines.{Ending, IsLeft, Said, Says, Standing}
 use Rattle.tier_tool.specs.Lines.{EndsAs, given, lines_given, standing}
 use Rattle.tier_tool.specs.Lines.Ending.{Failed, Lacking, Unheard, Unwritten, Whole}
 use Rattle.tier_tool.specs.Lines.Said.{Given, NoRoom, BadRecord}
 use Rattle.tool_jobs.specs.Outside.{Targets, base_of, room_of}
 use Rattle.tier_tool.specs.Plain.{Plain, after, answered, answers}
-use Rattle.tier_tool.specs.Runs.{BackLeaves, IsKept, RunsTasks, SaidFrom, SaysFromImage}
+use Rattle.tier_tool.specs.Runs.{BackLeaves, IsKept, RunsTasks, SaidFrom}
 use Rattle.tier_tool.specs.Steps.Opening.{TellsUnopened}
 use Rattle.tier_tool.specs.Steps.Serving.{GoesOn}
 use Rattle.tier_tool.specs.Steps.Telling.{SaysFrom, TellsLines}

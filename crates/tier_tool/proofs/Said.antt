@@ -9,19 +9,21 @@ use Rattle.obj_ops.specs.Stores.{Store}
 use Rattle.report_text.specs.Lines.{call_text}
 use Rattle.store_face.specs.Calls.{Stays}
 use Rattle.store_face.specs.Tables.{Table}
-use Rattle.store_face.specs.Views.{CrashMaps, Holds, StoreView, no_map}
+use Rattle.store_face.specs.Views.{CrashMaps, Holds, no_map}
 use Rattle.tier_chron.specs.declared.answer.Answer.{Answer}
 use Rattle.tier_outside.specs.Causes.{Rose}
 use Rattle.tier_outside.specs.Moments.{last}
+use Rattle.tier_outside.specs.Streams.{StreamState}
 use Rattle.tier_tool.specs.Bases.{HasRoom, IsUnreadable, StandsFor}
 use Rattle.tier_tool.specs.Costs.{cost}
-use Rattle.tier_tool.specs.Lines.{LineSays, Said, Standing, behind_line, said_text}
+use Rattle.tier_tool.specs.Lines.{LineSays, Said, Standing, TellsFailure, behind_line}
+use Rattle.tier_tool.specs.Lines.{disk_fault_text, said_text}
 use Rattle.tier_tool.specs.Lines.Said.{Given, NoRoom, BadRecord}
-use Rattle.tier_tool.specs.Plain.{Plain, after}
+use Rattle.tier_tool.specs.Plain.{after}
 use Rattle.tier_tool.specs.Steps.Serving.{IsAnswered, LineEnds, LineUses, SameUnreadable, WouldAct}
 use Rattle.tier_tool.specs.Steps.Serving.{TakesCost, acts_more}
 use Rattle.tier_tool.specs.Steps.Telling.{HasSaid, IsInWords, IsSaid, IsUnheard, IsUnwritten}
-use Rattle.tier_tool.specs.Steps.Telling.{IsWritten, LeavesInDoubt, SayEnds, SaysFault, SaysLine}
+use Rattle.tier_tool.specs.Steps.Telling.{IsWritten, SayEnds, SaysFault, SaysLine}
 use Rattle.tier_tool.specs.Steps.Telling.{Words}
 use Rattle.tier_tool.specs.Tasks.{name_of}
 use Rattle.tier_tool.specs.declared.base.LineFault.{LineFault}
@@ -29,6 +31,7 @@ use Rattle.tier_tool.specs.declared.base.LineFault.TheVariants as fault
 use Rattle.tier_tool.specs.declared.saying.Unsaid.{Unsaid}
 use Rattle.tier_tool.specs.declared.saying.Unsaid.TheVariants as unsaid
 use Rattle.tier_tool.specs.declared.task.Numbered.{Numbered}
+use Rattle.tool_jobs.specs.Putting.{Tells, Took}
 use Rattle.tier_tool.proofs.Views.{At, now_same, now_two, now_weaker}
 
 -- ---- one line
@@ -193,3 +196,19 @@ pub unwritten_is : (n : Numbered) (before acts : ℕ) (old new : LogView)
     → HasSaid n before acts old new → IsUnwritten n before acts old new [] 9
 unwritten_is n before acts old new h =
     record { said = h.said; is = h.is; ended = refl; silent = refl }
+
+-- that the disk failed in a line was told, or the sink failed in it
+pub tells_failure : (n : Numbered) (text : List ℕ) (old new : StreamState) (status : ℕ)
+    → text ≡ disk_fault_text n.number → Tells text 6 old new status
+    → Took old.bytes new.bytes (λ put. TellsFailure (Rose old.faults new.faults) n put status)
+tells_failure n text old new status is (inl all) = (text, all.all, inl (all.ended, inl is))
+tells_failure n text old new status is (inr failed) =
+    let count = failed.front.count in (
+      take count text,
+      failed.front.gained,
+      inr (
+        failed.ended,
+        failed.cause,
+        record { rest = drop count text; joined = take-append-drop count text ∙ is },
+      ),
+    )

@@ -1,5 +1,5 @@
 -- How a run of accepted lines ends: on the base of the one pair, from what a crash left of it.
-use Rattle.std.specs.Prelude.{◌≡◌, ◌≢◌, ◌⊎◌, ℕ, List, [], ◌∷◌, map, Option}
+use Rattle.std.specs.Prelude.{◌≡◌, ◌≢◌, ◌⊎◌, ℕ, List, map, Option}
 use Rattle.log_image.specs.Fronts.{IsBad, IsOf}
 use Rattle.log_image.specs.Images.{HoldsLog}
 use Rattle.log_store.specs.Opens.{OpeningStops, OpensAs}

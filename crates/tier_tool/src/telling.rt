@@ -1,11 +1,11 @@
 //! Carries lines out one after another, and puts what is said of each before the next, one text a
 //! call of the sink. The promise: what was put is what is said of the lines, in their order.
-ghost use Rattle.std.specs.Prelude.{◌≡◌, ◌≤◌, ◌<◌, ◌+◌, ◌-◌, ◌^◌, true, All};
+ghost use Rattle.std.specs.Prelude.{◌≡◌, ◌≤◌, ◌<◌, ◌+◌, ◌-◌, ◌^◌, ◌++◌, true, All, OnOk};
 ghost use Rattle.log_store.specs.Commits.{SameStore};
 ghost use Rattle.log_store.specs.Views.{store_of};
 ghost use Rattle.store_face.specs.Views.{Sound};
 ghost use Rattle.tier_outside.specs.Causes.{Rose};
-ghost use Rattle.tier_tool.specs.Lines.{TellsFailure};
+ghost use Rattle.tier_tool.specs.Lines.{TellsFailure, disk_fault_text};
 ghost use Rattle.tier_tool.specs.Steps.Serving.{GoesOn};
 ghost use Rattle.tier_tool.specs.Steps.Telling.{TellsLine, TellsLines};
 ghost use Rattle.tool_jobs.specs.Putting.{Took};
@@ -14,12 +14,12 @@ ghost use Rattle.tier_tool.specs.Tasks.{IsTask};
 use crate::saying::{Unsaid, say_line};
 use crate::task::Numbered;
 use log_store::LogStore;
-use obj_model::Pool;
+use obj_model::{NoMemory, Pool};
 use report_text::{Text, put_call};
 use std::alloc::Global;
 use tier_chron::Answer;
 use tier_outside::{Disk, Sink};
-use tool_jobs::{ANSWERED, DISK_FAILED, OUT_OF_MEMORY, SINK_FAILED};
+use tool_jobs::{ANSWERED, DISK_FAILED, OUT_OF_MEMORY, SINK_FAILED, tell};
 
 /// Carries all lines out on a live store, and puts what is said of each before the next is carried
 /// out.
@@ -92,12 +92,16 @@ fn tell_disk_fault<K: Sink>(numbered: &Numbered, text: &mut Text, out: &mut K) -
     ensures later { K.faults out.old ≤ K.faults out.new }
 {
     text.clear();
+    match write_disk_fault(numbered.number, text) {
+        Ok(()) => tell(text.as_slice(), DISK_FAILED, out),
+        Err(_) => DISK_FAILED,
+    }
+}
+
+// The base's disk failed in a line.
+fn write_disk_fault(number: u32, text: &mut Text) -> Result<(), NoMemory>
+    ensures { OnOk result (text.new ≡ text.old ++ disk_fault_text number) }
+{
     let failed = Answer::DiskFault { pool: Pool::Base };
-    if put_call(text, numbered.number, &failed, 0).is_err() {
-        return DISK_FAILED;
-    }
-    match out.put(text.as_slice()) {
-        Ok(()) => DISK_FAILED,
-        Err(_) => SINK_FAILED,
-    }
+    put_call(text, number, &failed, 0)
 }

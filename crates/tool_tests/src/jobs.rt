@@ -7,7 +7,8 @@ use std::test::Fail;
 use tier_outside::MemSource;
 
 // Words, a script, a status and what is put, apart by ` | `; a slash ends a line.
-const ROWS: &str = r#"run | op 1 1 a append 64/op 1 1 a append 64/get 1 a stat/ | 0 | 1 done v1 @1/2 done v1 @1 kept/3 values v1 @1 1/
+const ROWS: &str =
+    r#"run | op 1 1 a append 64/op 1 1 a append 64/get 1 a stat/ | 0 | 1 done v1 @1/2 done v1 @1 kept/3 values v1 @1 1/
 run | op 1 5 a create/op 1 4 a remove/ | 0 | 1 done v1 @1/2 stale 5/
 run | op 1 1 a write 3 61/get 1 a read 0 0/op 1 2 a zero 2 9/get 1 a read 0 0/ | 0 | 1 done v1 @1/2 values v1 @1 00000061/3 done v2 @2/4 values v2 @2 00000000/
 run | op 1 1 a create/op 1 2 a setxattr k 61 ; assert_ver 9/get 1 a listxattrs/op 1 2 a setxattr k 61 ; assert_ver 9/op 1 3 a assert_ver 0 ; remove/ | 0 | 1 done v1 @1/2 refused 1 overflow v1 @2/3 values v1 @2 0/4 refused 1 overflow v1 @2 kept/5 refused 0 range v1 @3/
@@ -85,10 +86,16 @@ fn a_generated_script_in_pieces(rt: HostRuntime) -> Result<(), Fail> {
     let alloc = rt.alloc();
     let mut source = MemSource::new(Vec::new(alloc), Vec::new(alloc));
     let whole = call(&rt, alloc, "gen --count 3000", &mut source, 1, 0)?;
-    assert_eq!(rt; (whole.status, whole.sink.calls(), source.calls()), (0, 2, 0));
+    assert_eq!(rt;
+        (whole.status, whole.sink.calls(), source.calls()),
+        (0, 2, 0)
+    );
     let cut = call(&rt, alloc, "gen --count 3000", &mut source, 1, 2)?;
     assert_eq!(rt; (cut.status, cut.sink.bytes().len()), (8, 65_536));
-    let (front, _) = whole.sink.bytes().split_at(65_536.min(whole.sink.bytes().len()));
+    let (front, _) = whole
+        .sink
+        .bytes()
+        .split_at(65_536.min(whole.sink.bytes().len()));
     assert!(rt; cut.sink.bytes() == front);
     Ok(())
 }
@@ -102,7 +109,10 @@ fn a_generated_script_runs(rt: HostRuntime) -> Result<(), Fail> {
     let script = Vec::from_slice(alloc, made.sink.bytes())?;
     let mut source = MemSource::new(script, Vec::new(alloc));
     let checked = call(&rt, alloc, "check", &mut source, 1, 0)?;
-    assert_eq!(rt; (checked.status, checked.sink.bytes()), (0, b"ok 40\n".as_slice()));
+    assert_eq!(rt;
+        (checked.status, checked.sink.bytes()),
+        (0, b"ok 40\n".as_slice())
+    );
     let script = Vec::from_slice(alloc, made.sink.bytes())?;
     let mut source = MemSource::new(script, Vec::new(alloc));
     let ran = call(&rt, alloc, "run", &mut source, 0, 0)?;

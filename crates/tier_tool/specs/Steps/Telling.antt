@@ -1,5 +1,5 @@
 -- How one line is carried out, put into words and told, and what was told so far.
-use Rattle.std.specs.Prelude.{◌≡◌, ◌⊎◌, ℕ, true, List, [], ◌∷◌, ◌++◌, Result, Ok, Err}
+use Rattle.std.specs.Prelude.{◌≡◌, ◌⊎◌, ℕ, true, List, [], ◌++◌, Result, Ok, Err}
 use Rattle.log_store.specs.Commits.{SameStore}
 use Rattle.log_store.specs.Views.{LogView, store_of}
 use Rattle.obj_model.specs.declared.memory.NoMemory.{NoMemory}
