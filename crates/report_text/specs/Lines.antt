@@ -10,6 +10,7 @@ use Rattle.report_text.specs.Words.{key_text, number_text, path_text, reply_text
 use Rattle.report_text.specs.declared.told.Told.{Told}
 use Rattle.report_text.specs.declared.told.Told.TheVariants as told
 use Rattle.script_lang.specs.Spelling.{mode_word}
+use Rattle.tier_chron.specs.declared.answer.Answer.{Answer}
 use Rattle.tier_chron.specs.declared.entries.Act.{Act}
 
 -- the path of an answer that has one, where paths are asked for
@@ -40,6 +41,10 @@ all_told_text paths (first ∷ others) =
 -- a line's answers: its number, a space, what is told, and a newline
 abbrev pub line_text : Bool → ℕ → List Told → List ℕ
 line_text paths number all = decimal number ++ codes " " ++ all_told_text paths all ++ codes "\n"
+
+-- the line of a client's call that one group answered, without its path
+abbrev pub call_text : ℕ → ℕ → Answer → List ℕ
+call_text number place a = decimal number ++ codes " " ++ answer_text place a ++ codes "\n"
 
 -- an act of a group's history, by its number
 abbrev pub act_text : ℕ → ℕ → Act → List ℕ

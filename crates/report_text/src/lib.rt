@@ -7,6 +7,7 @@
 
 mod answers;
 mod counts;
+mod faults;
 mod lines;
 mod rows;
 mod told;
@@ -14,7 +15,8 @@ mod words;
 
 pub use answers::put_answer;
 pub use counts::{Class, Counts, put_summary};
-pub use lines::{answer_text, put_act};
+pub use faults::{put_accepted, put_bad_image, put_fault, put_unbuilt, put_wrong_pair};
+pub use lines::{answer_text, put_act, put_call};
 pub use rows::{put_base_row, put_cache_row};
 pub use script_lang::Text;
 pub use told::Told;

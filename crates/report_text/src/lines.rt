@@ -1,13 +1,13 @@
 //! The texts of lines and of acts.
 ghost use Rattle.std.specs.Prelude.{◌≡◌, ◌++◌, OnOk, Option};
-ghost use Rattle.report_text.specs.Lines.{act_text, all_told_text, line_text, told_text, way_text};
+ghost use Rattle.report_text.specs.Lines.{act_text, all_told_text, call_text, line_text, told_text, way_text};
 
 use crate::answers::put_answer;
 use crate::words::{path_word, put_name, put_number, put_reply};
 use crate::{Text, Told};
 use obj_model::{NoMemory, Path};
 use script_lang::mode_word;
-use tier_chron::Act;
+use tier_chron::{Act, Answer};
 
 /// Puts the text of a line behind a text: its number, what it is told of each group, joined with `
 /// ; `, and a newline. With `paths` each answer that has a path is followed by it.
@@ -22,6 +22,16 @@ pub fn answer_text(
     text.push_number(u64::from(number))?;
     text.push(" ")?;
     put_all(text, told, paths)?;
+    text.push("\n")
+}
+
+/// Puts the line of a client's call that one group answered behind a text, without its path.
+pub fn put_call(text: &mut Text, number: u32, answer: &Answer, place: u64) -> Result<(), NoMemory>
+    ensures { OnOk result (text.new ≡ text.old ++ call_text number place answer.now) }
+{
+    text.push_number(u64::from(number))?;
+    text.push(" ")?;
+    put_answer(text, answer, place)?;
     text.push("\n")
 }
 

@@ -1,5 +1,6 @@
 -- A pool's map and the plain store that it stands for: what a name has, and what a put changes.
-use Rattle.std.proofs.Common.{◌≡◌, ◌↔◌, ℕ, Bool, true, false, cond, List, [], ◌∷◌, Option, Some, None, unwrap_or, refl, sym, ap, subst, ◌∙◌, arith}
+use Rattle.std.proofs.Common.{◌≡◌, ◌↔◌, ℕ, Bool, true, false, cond, List, [], ◌∷◌, Option, Some}
+use Rattle.std.proofs.Common.{None, unwrap_or, refl, sym, ap, subst, ◌∙◌, arith}
 use Rattle.std.specs.Cmp.{Equal-is}
 use Rattle.std.specs.Ordering.{eq_by_cmp}
 use Rattle.std.specs.Cmp.Lexicographic.{nat_list_cmp_total}
@@ -16,8 +17,9 @@ use Rattle.rec_codec.proofs.BlockLaws.{name_short}
 use Rattle.rec_codec.proofs.Whole.{states_apart}
 use Rattle.store_face.specs.Tables.{Table}
 use Rattle.tier_tool.specs.Costs.{state_key}
-use Rattle.tier_tool.specs.Bases.{IsSpelled, StandsFor, IsUnreadable, SameUnreadable}
-use Rattle.tier_tool.specs.Pools.{IsStateOf, Has, IsWith}
+use Rattle.tier_tool.specs.Bases.{IsSpelled, StandsFor, IsUnreadable}
+use Rattle.tier_tool.specs.Steps.Serving.{SameUnreadable}
+use Rattle.tier_tool.specs.Steps.Pools.{IsStateOf, Has, IsWith}
 use Rattle.tier_tool.proofs.Lengths.{spelling_short}
 
 some_is : (a b : List ℕ) → Some a ≡ Some b → a ≡ b

@@ -5,8 +5,9 @@ use Rattle.obj_model.specs.declared.change.Change.{Change}
 use Rattle.store_face.specs.Views.{StoreView}
 use Rattle.store_face.specs.Calls.{Committed}
 use Rattle.store_face.specs.declared.fault.StoreFault.{StoreFault}
-use Rattle.store_face.specs.declared.fault.StoreFault.TheVariants.{Disk, BadImage, NoSpace, Worn, NoMemory}
-use Rattle.tier_tool.specs.Bases.{GoesOn}
+use Rattle.store_face.specs.declared.fault.StoreFault.TheVariants.{Disk, BadImage, NoSpace, Worn}
+use Rattle.store_face.specs.declared.fault.StoreFault.TheVariants.{NoMemory}
+use Rattle.tier_tool.specs.Steps.Serving.{GoesOn}
 use Rattle.tier_outside.proofs.Moments.{grown_none}
 
 -- no moment came

@@ -1,5 +1,6 @@
 -- The lines of a script can be carried out.
-use Rattle.std.proofs.Common.{ℕ, zero, suc, ◌+◌, Bool, true, false, List, [], ◌∷◌, map, length, MatchBool, All}
+use Rattle.std.proofs.Common.{ℕ, zero, suc, ◌+◌, Bool, true, false, List, [], ◌∷◌, map, length}
+use Rattle.std.proofs.Common.{MatchBool, All}
 use Rattle.std.proofs.lemmas.List.Elements.{All-nil, All-cons, All-head, All-same, All-tail}
 use Rattle.script_lang.specs.Contexts.{Context, start}
 use Rattle.script_lang.specs.Scripts.{Reads, SaysFirst, IsScript, is_passed, lines_of}

@@ -1,5 +1,6 @@
 -- The spelling of a state is no longer than a value of a store may be.
-use Rattle.std.proofs.Common.{◌≡◌, ℕ, zero, suc, ◌+◌, ◌*◌, ◌≤◌, List, [], ◌∷◌, ◌++◌, map, length, Option, Some, None, refl, ap, ◌∙◌, arith}
+use Rattle.std.proofs.Common.{◌≡◌, ℕ, zero, suc, ◌+◌, ◌*◌, ◌≤◌, List, [], ◌∷◌, ◌++◌, map, length}
+use Rattle.std.proofs.Common.{Option, Some, None, refl, ap, ◌∙◌, arith}
 use Rattle.std.specs.List.{AllByRecursion, flat_map}
 use Rattle.std.specs.FinMap as fin
 use Rattle.std.specs.Int.{bytes_high_first}
@@ -13,10 +14,13 @@ use Rattle.obj_model.specs.declared.reply.Kept.{Kept}
 use Rattle.obj_model.specs.declared.reply.Reply.{Reply}
 use Rattle.obj_model.specs.declared.reply.Reply.TheVariants.{Done, Refused}
 use Rattle.obj_model.specs.declared.reply.Why.{Why}
-use Rattle.obj_model.specs.declared.reply.Why.TheVariants.{Exists, NoEnt, NoData, Canceled, Range, Overflow, TooBig}
+use Rattle.obj_model.specs.declared.reply.Why.TheVariants.{Exists, NoEnt, NoData, Canceled, Range}
+use Rattle.obj_model.specs.declared.reply.Why.TheVariants.{Overflow, TooBig}
 use Rattle.obj_model.specs.declared.state.Obj.{Obj}
 use Rattle.obj_model.specs.declared.state.NameState.{NameState}
-use Rattle.rec_codec.specs.Spelling.{Entry, name, string, why, reply, kept, pair, table, object_or_none, kept_list, state_bytes, IsNamed, IsNamedObj, IsTyped, SpellsState}
+use Rattle.rec_codec.specs.Spelling.{Entry, name, string, why, reply, kept, pair, table}
+use Rattle.rec_codec.specs.Spelling.{object_or_none, kept_list, state_bytes, IsNamed, IsNamedObj}
+use Rattle.rec_codec.specs.Spelling.{IsTyped, SpellsState}
 use Rattle.rec_codec.proofs.BlockLaws.{name_short}
 use Rattle.rec_codec.proofs.Puts.{kept_few}
 

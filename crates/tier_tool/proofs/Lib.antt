@@ -2,6 +2,7 @@ pub mod Bases
 pub mod Going
 pub mod Lawful
 pub mod Lengths
+pub mod LinesTold
 pub mod Next
 pub mod Ordered
 pub mod Outcomes
@@ -9,5 +10,4 @@ pub mod Pools
 pub mod Rooms
 pub mod Runs
 pub mod Said
-pub mod Told
 pub mod Views

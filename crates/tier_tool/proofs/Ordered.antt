@@ -4,7 +4,8 @@ use Rattle.obj_ops.specs.Stores.{replay}
 use Rattle.tier_tool.specs.declared.task.Task.{Task}
 use Rattle.tier_tool.specs.declared.task.Task.TheVariants.{Op, Get}
 use Rattle.tier_tool.specs.declared.task.Numbered.{Numbered}
-use Rattle.tier_tool.specs.Laws.{LaterLinesChangeNothing, RequestsMakeTheStore, behind, requests, with_request}
+use Rattle.tier_tool.specs.Laws.{LaterLinesChangeNothing, RequestsMakeTheStore, behind, requests}
+use Rattle.tier_tool.specs.Laws.{with_request}
 use Rattle.tier_tool.specs.Plain.{Plain, after, answered, answers, begun}
 
 answers-append : (before others : List Numbered) (p : Plain) → answers (before ++ others) p ≡ answers before p ++ answers others (behind before p)

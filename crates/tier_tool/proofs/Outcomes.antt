@@ -1,5 +1,6 @@
 -- How a line ends, by what was found under its name and what was put there.
-use Rattle.std.proofs.Common.{◌≡◌, inl, inr, ℕ, ◌+◌, true, false, List, Option, Some, None, Result, Ok, Err, refl, sym, ap, subst, ◌∙◌, arith}
+use Rattle.std.proofs.Common.{◌≡◌, inl, inr, ℕ, ◌+◌, true, false, List, Option, Some, None, Result}
+use Rattle.std.proofs.Common.{Ok, Err, refl, sym, ap, subst, ◌∙◌, arith}
 use Rattle.std.specs.FinMap as fin
 use Rattle.std.specs.List.Sorted.{IsStrictlySortedBy}
 use Rattle.std.specs.Result.{IsErr, IsErrAnd}
@@ -21,12 +22,15 @@ use Rattle.store_face.specs.Views.{StoreView, CrashMaps, Durable, Now, Holds, no
 use Rattle.tier_outside.specs.Moments.{last}
 use Rattle.store_face.specs.Calls.{Stays, Got}
 use Rattle.tier_tool.specs.Answers.{of_request, of_reading, replied}
-use Rattle.tier_tool.specs.Bases.{StandsFor, IsUnreadable, SameUnreadable, name_of, IsFresh, ActsOn, IsAnswered, BeforeOrAfter, InDoubt, LineEnds}
+use Rattle.tier_tool.specs.Bases.{StandsFor, IsUnreadable, IsFresh, ActsOn, BeforeOrAfter}
+use Rattle.tier_tool.specs.Steps.Serving.{SameUnreadable, IsAnswered, InDoubt, LineEnds}
+use Rattle.tier_tool.specs.Tasks.{name_of}
+use Rattle.tier_tool.specs.Steps.Pools.{IsStateOf, Has, Found, IsWith, IsTorn, WasPut}
+use Rattle.tier_tool.specs.Steps.Pools.{WithOrWithout}
 use Rattle.store_face.specs.Rooms.{record_size}
 use Rattle.tier_tool.specs.Costs.{change_of, cost, cost_of, state_key}
 use Rattle.tier_tool.specs.Plain.{Plain, answer, after, after_request, acts_after}
-use Rattle.tier_tool.specs.Pools.{IsStateOf, Has, Found, IsWith, IsTorn, WasPut, WithOrWithout}
-use Rattle.tier_tool.specs.declared.answer.Answer.{Answer}
+use Rattle.tier_chron.specs.declared.answer.Answer.{Answer}
 use Rattle.tier_tool.specs.declared.base.LineFault.{LineFault}
 use Rattle.tier_tool.specs.declared.base.LineFault.TheVariants as fault
 use Rattle.tier_tool.proofs.Bases.{has_readable, has_state, stands_put, unreadable_put}

@@ -1,10 +1,12 @@
 -- How the calls on a pool's store end, from what its clauses say of its moments.
-use Rattle.std.proofs.Common.{◌≡◌, ◌⊎◌, inl, inr, ℕ, true, List, [], ◌∷◌, Ok, Err, refl, sym, ap, ap₂, subst, ◌∙◌, arith}
+use Rattle.std.proofs.Common.{◌≡◌, ◌⊎◌, inl, inr, ℕ, true, List, [], ◌∷◌, Ok, Err, refl, sym, ap}
+use Rattle.std.proofs.Common.{ap₂, subst, ◌∙◌, arith}
 use Rattle.obj_model.specs.declared.change.Change.{Change}
 use Rattle.obj_model.specs.declared.change.Change.TheVariants.{Put}
 use Rattle.obj_model.specs.declared.state.NameState.{NameState}
 use Rattle.rec_codec.specs.Spelling.{SpellsState}
 use Rattle.tier_outside.proofs.Moments.{grows_now}
+use Rattle.log_store.specs.Commits.{KeepsAll}
 use Rattle.log_store.specs.Views.{LogView, store_of}
 use Rattle.store_face.specs.Rooms.{Lack, record_size}
 use Rattle.store_face.specs.Rooms.Room.{LogRoom}
@@ -13,11 +15,10 @@ use Rattle.store_face.specs.Views.{Durable, Holds, IsBehind, IsOne, Now, Sound, 
 use Rattle.store_face.specs.Calls.{Between, Both, Committed, Fails, Stays}
 use Rattle.store_face.specs.declared.fault.StoreFault.{StoreFault}
 use Rattle.store_face.specs.declared.fault.StoreFault.TheVariants as store
-use Rattle.tier_tool.proofs.Told.{rose_later}
+use Rattle.tool_jobs.proofs.Told.{rose_later}
 pub use Rattle.tier_tool.proofs.Views.{At, now_same, now_two, now_weaker}
 use Rattle.tier_tool.specs.Costs.{change_of, state_key}
-use Rattle.tier_tool.specs.Rooms.{PutUses}
-use Rattle.tier_tool.specs.Pools.{line_fault, IsWith, IsTorn, WasPut, WithOrWithout}
+use Rattle.tier_tool.specs.Steps.Pools.{PutUses, line_fault, IsWith, IsTorn, WasPut, WithOrWithout}
 
 -- a call that changed nothing, and one that did not either
 pub stays_twice : (a b c : StoreView) → Stays a b → Stays b c → Stays a c
@@ -123,12 +124,15 @@ done_uses name key value bytes s old new e f h done =
     (omega (arith, done.fits, same), omega (arith, done.used, same))
 
 -- one that failed
-pub failed_uses : (name key value bytes : List ℕ) (s : NameState) (old new : LogView) (fault : StoreFault) → key ≡ state_key name → value ≡ bytes
-    → SpellsState bytes s → Committed (puts key value) (store_of old) (store_of new) (Err fault) → PutUses name s old new (Err (line_fault fault))
-failed_uses name key value bytes s old new store.Disk e f h done = tt
-failed_uses name key value bytes s old new (store.BadImage at) e f h done = absurd done
-failed_uses name key value bytes s old new (store.NoSpace used more limit) e f h done =
-    let same : record_size (puts key value) ≡ record_size (change_of name s) = ap record_size (ap₂ puts e (f ∙ h.spelled)) in
+pub failed_uses : (name key value bytes : List ℕ) (s : NameState) (old new : LogView)
+    (fault : StoreFault) → key ≡ state_key name → value ≡ bytes → SpellsState bytes s
+    → Committed (puts key value) (store_of old) (store_of new) (Err fault)
+    → KeepsAll old new (Err fault) → PutUses name s old new (Err (line_fault fault))
+failed_uses name key value bytes s old new store.Disk e f h done kept = tt
+failed_uses name key value bytes s old new (store.BadImage at) e f h done kept = absurd done
+failed_uses name key value bytes s old new (store.NoSpace used more limit) e f h done kept =
+    let same : record_size (puts key value) ≡ record_size (change_of name s) =
+    ap record_size (ap₂ puts e (f ∙ h.spelled)) in
     let numbers = done.0.1 in
     let more_is : more ≡ record_size (puts key value) = ap (λ (l : Lack). l.need) numbers in (
       ap (λ (l : Lack). l.used) numbers,
@@ -137,5 +141,5 @@ failed_uses name key value bytes s old new (store.NoSpace used more limit) e f h
       done.1.used,
       more_is ∙ same,
     )
-failed_uses name key value bytes s old new (store.Worn limit) e f h done = absurd done.1
-failed_uses name key value bytes s old new store.NoMemory e f h done = done.used
+failed_uses name key value bytes s old new (store.Worn limit) e f h done kept = absurd done.1
+failed_uses name key value bytes s old new store.NoMemory e f h done kept = kept

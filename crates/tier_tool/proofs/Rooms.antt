@@ -1,5 +1,6 @@
 -- What lines take of the room, from what the calls on the store took.
-use Rattle.std.proofs.Common.{◌≡◌, ◌+◌, ℕ, Bool, List, Option, Some, None, Ok, Err, sym, ap, subst, ◌∙◌, arith}
+use Rattle.std.proofs.Common.{◌≡◌, ◌+◌, ℕ, Bool, List, Option, Some, None, Ok, Err, sym, ap, subst}
+use Rattle.std.proofs.Common.{◌∙◌, arith}
 use Rattle.obj_model.specs.declared.req.Req.{Req}
 use Rattle.obj_model.specs.declared.reply.Reply.{Reply}
 use Rattle.obj_model.specs.declared.state.NameState.{NameState}
@@ -14,11 +15,11 @@ use Rattle.store_face.specs.Rooms.{record_size}
 use Rattle.log_store.specs.Views.{LogView, store_of}
 use Rattle.tier_tool.specs.declared.task.Task.{Task}
 use Rattle.tier_tool.specs.declared.task.Task.TheVariants.{Op, Get}
-use Rattle.tier_tool.specs.Bases.{StandsFor, IsFresh}
-use Rattle.tier_tool.specs.Pools.{Found, Has}
+use Rattle.tier_tool.specs.Bases.{StandsFor, IsFresh, HasRoom}
+use Rattle.tier_tool.specs.Steps.Pools.{Found, Has, PutUses}
+use Rattle.tier_tool.specs.Steps.Serving.{LineUses}
 use Rattle.tier_tool.specs.Costs.{change_of, cost, cost_of}
-use Rattle.tier_tool.specs.Rooms.{HasRoom, LineUses, PutUses}
-use Rattle.tier_tool.specs.declared.answer.Answer.{Answer}
+use Rattle.tier_chron.specs.declared.answer.Answer.{Answer}
 use Rattle.tier_tool.specs.declared.base.LineFault.{LineFault}
 use Rattle.tier_tool.specs.declared.base.LineFault.TheVariants as fault
 use Rattle.tier_tool.proofs.Bases.{has_state}
@@ -33,7 +34,7 @@ pub not_found_uses : (name : List ℕ) (line : Task) (old new : LogView) (f : Li
 not_found_uses name line old new (fault.NoSpace used more limit) found same = absurd found
 not_found_uses name line old new fault.BadRecord found same = ap (λ (v : LogView). v.used) same
 not_found_uses name line old new fault.Disk found same = tt
-not_found_uses name line old new fault.NoMemory found same = ap (λ (v : LogView). v.used) same
+not_found_uses name line old new fault.NoMemory found same = same
 
 -- a reading takes nothing
 pub reading_uses : (client : ℕ) (name : List ℕ) (vector : List SubOp) (old new : LogView) (done : Answer × Bool) → new ≡ old → LineUses (Get client name vector) old new (Ok done)
@@ -78,4 +79,4 @@ not_put_uses req s next reply old mid new (fault.NoSpace used more limit) is has
     )
 not_put_uses req s next reply old mid new fault.BadRecord is has same put = absurd put
 not_put_uses req s next reply old mid new fault.Disk is has same put = tt
-not_put_uses req s next reply old mid new fault.NoMemory is has same put = subst (λ (v : LogView). new.used ≡ v.used) same put
+not_put_uses req s next reply old mid new fault.NoMemory is has same put = put ∙ same

@@ -5,7 +5,7 @@ use Rattle.tier_outside.specs.Moments.{grown}
 use Rattle.tier_outside.proofs.Moments as laws
 use Rattle.tier_outside.proofs.Moments.{grown_none, grown_twice, then_then}
 use Rattle.store_face.specs.Views.{CrashMaps, StoreView, no_map}
-use Rattle.tier_tool.specs.Bases.{GoesOn}
+use Rattle.tier_tool.specs.Steps.Serving.{GoesOn}
 
 -- where there are moments, the last one has P
 abbrev pub At : Option (List CrashMaps) → (CrashMaps → Type 0) → Type 0

@@ -6,8 +6,8 @@ use Rattle.obj_ops.specs.declared.request.Acted.{Acted}
 use Rattle.obj_ops.specs.declared.request.Acted.TheVariants as acted
 use Rattle.obj_ops.specs.declared.reading.Looked.{Looked}
 use Rattle.obj_ops.specs.declared.reading.Looked.TheVariants as looked
-use Rattle.tier_tool.specs.declared.answer.Answer.{Answer}
-use Rattle.tier_tool.specs.declared.answer.Answer.TheVariants.{Done, Refused, Values, Stale, Worn}
+use Rattle.tier_chron.specs.declared.answer.Answer.{Answer}
+use Rattle.tier_chron.specs.declared.answer.Answer.TheVariants.{Done, Refused, Values, Stale, Worn}
 
 -- the answer that gives a reply, which may be one that was kept
 abbrev pub replied : Reply → Bool → Answer

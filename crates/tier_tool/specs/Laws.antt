@@ -30,15 +30,19 @@ behind (n ∷ lines) p = behind lines (after p n.line)
 -- what lines are answered does not depend on the lines behind them
 abbrev pub LaterLinesChangeNothing : List Numbered → List Numbered → Type 0
 LaterLinesChangeNothing before others =
-    (store : Store) → plain (before ++ others) store ≡ plain before store ++ answers others (behind before (begun store))
+    (store : Store)
+    → plain (before ++ others) store
+    ≡ plain before store ++ answers others (behind before (begun store))
 
 -- lines leave the store that their write requests leave, one after another
 abbrev pub RequestsMakeTheStore : List Numbered → Type 0
-RequestsMakeTheStore lines = (store : Store) → (behind lines (begun store)).store ≡ replay store (requests lines)
+RequestsMakeTheStore lines =
+    (store : Store) → (behind lines (begun store)).store ≡ replay store (requests lines)
 
 -- A run that opens a disk which is a log goes on from the plain store that its map stands for, with
 -- as much of the room used.
 abbrev pub TheNextRunGoesOn : Type 0
 TheNextRunGoesOn =
-    (image : List ℕ) (was log : Durable) (store : Store) → HoldsLog Base 257 image was → StandsFor was.table store → OpensAs Base 257 log image
+    (image : List ℕ) (was log : Durable) (store : Store) → HoldsLog Base 257 image was
+    → StandsFor was.table store → OpensAs Base 257 log image
     → StandsFor log.table store × (log.used ≡ was.used)

@@ -1,12 +1,18 @@
-pub mod Tasks
+-- What a run is answered from: one plain store.
 pub mod Answers
+pub mod Plain
+-- What a line asks, and which lines are carried out so far.
+pub mod Tasks
+-- What a pool's map and its room say of the plain store.
 pub mod Bases
 pub mod Costs
-pub mod Laws
+-- What lines are answered, one after another, and how a run of them ends.
 pub mod Lines
-pub mod Main
-pub mod Plain
-pub mod Pools
-pub mod Rooms
-pub mod Telling
-pub mod Texts
+-- How a run on the base ends.
+pub mod Runs
+-- How each job ends, and the whole: `Ran`.
+pub mod Jobs
+-- What follows of the answers, in plain words.
+pub mod Laws
+-- What private steps promise each other.
+pub mod Steps

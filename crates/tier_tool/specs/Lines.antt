@@ -1,16 +1,17 @@
 -- What is said of lines, one after another, and how a run of lines ends.
 use Rattle.std.specs.Prelude.{◌≡◌, ◌⊎◌, ◌<◌, ℕ, ◌+◌, List, [], ◌∷◌, ◌++◌, map}
 use Rattle.std.specs.List.{concat}
-use Rattle.store_face.specs.Tables.{Table}
-use Rattle.store_face.specs.Views.{StoreView, Durable, Now, Holds}
-use Rattle.log_store.specs.Views.{LogView, store_of}
+use Rattle.obj_model.specs.declared.change.Pool.TheVariants.{Base}
 use Rattle.obj_ops.specs.Stores.{Store}
-use Rattle.tier_tool.specs.declared.task.Numbered.{Numbered}
-use Rattle.tier_tool.specs.Bases.{BeforeOrAfter, StandsFor, IsUnreadable, ActsOn, name_of}
+use Rattle.report_text.specs.Lines.{call_text}
+use Rattle.store_face.specs.Tables.{Table}
+use Rattle.store_face.specs.Views.{Durable}
+use Rattle.tier_chron.specs.declared.answer.Answer.TheVariants as answer
+use Rattle.tier_tool.specs.Bases.{ActsOn, BeforeOrAfter, HasRoom, IsUnreadable, StandsFor}
 use Rattle.tier_tool.specs.Costs.{cost}
-use Rattle.tier_tool.specs.Plain.{Plain, Answered, answered, after, begun}
-use Rattle.tier_tool.specs.Rooms.{HasRoom}
-use Rattle.tier_tool.specs.Texts.{line_text, no_space_text, bad_record_text, disk_fault_text}
+use Rattle.tier_tool.specs.Plain.{Answered, Plain, after, answered, begun}
+use Rattle.tier_tool.specs.Tasks.{name_of}
+use Rattle.tier_tool.specs.declared.task.Numbered.{Numbered}
 
 -- what stands behind some lines: the plain store, and how much of the pool's room is used, in bytes
 pub record Standing : Type 0 where
@@ -23,7 +24,10 @@ standing store used = record { plain = begun store; used = used }
 
 -- what stands behind a line that was carried out: its record is used of the room
 abbrev pub behind_line : Standing → Numbered → Standing
-behind_line p n = record { plain = after p.plain n.line; used = p.used + cost p.plain.store n.line }
+behind_line p n = record {
+  plain = after p.plain n.line;
+  used = p.used + cost p.plain.store n.line;
+}
 
 -- What is said of a line: its answer; or that the pool has no room for its act; or that the name's
 -- value spells no state.
@@ -32,15 +36,35 @@ pub data Said : Type 0 where
   NoRoom : (number used more limit : ℕ) → Said
   BadRecord : (number : ℕ) → (name : List ℕ) → Said
 
--- the text of what is said
+-- the text of what is said; a line that is not carried out has no place
 abbrev pub said_text : Said → List ℕ
-said_text (Given a) = line_text a
-said_text (NoRoom number used more limit) = no_space_text number used more limit
-said_text (BadRecord number name) = bad_record_text number name
+said_text (Given a) = call_text a.number a.place a.answer
+said_text (NoRoom number used more limit) =
+    call_text number 0 (answer.NoSpace Base used more limit)
+said_text (BadRecord number name) = call_text number 0 (answer.BadRecord Base name)
 
 -- the texts of what is said, one behind another
 abbrev pub texts_of : List Said → List ℕ
 texts_of said = concat (map said_text said)
+
+-- the text of a line in which the base's disk failed
+abbrev pub disk_fault_text : ℕ → List ℕ
+disk_fault_text number = call_text number 0 (answer.DiskFault Base)
+
+-- the answers among what is said
+abbrev pub given : List Said → List Answered
+given [] = []
+given (Given a ∷ said) = a ∷ given said
+given (NoRoom number used more limit ∷ said) = given said
+given (BadRecord number name ∷ said) = given said
+
+-- the lines that were answered, where this is said of the first ones
+abbrev pub lines_given : List Numbered → List Said → List Numbered
+lines_given lines [] = []
+lines_given [] (s ∷ said) = []
+lines_given (n ∷ lines) (Given a ∷ said) = n ∷ lines_given lines said
+lines_given (n ∷ lines) (NoRoom number used more limit ∷ said) = lines_given lines said
+lines_given (n ∷ lines) (BadRecord number name ∷ said) = lines_given lines said
 
 -- What is said of one line, from a map with such unreadable names, in so much room, over what
 -- stands before the line; and what stands behind it. It has the plain store's answer, at its place,
@@ -48,25 +72,33 @@ texts_of said = concat (map said_text said)
 -- and it changes nothing; or its name is unreadable.
 abbrev pub LineSays : Table → (room : ℕ) → Standing → Numbered → Said → Standing → Type 0
 LineSays t room p n (Given a) q =
-    (¬ IsUnreadable t (name_of n.line)) × (a ≡ answered p.plain n) × HasRoom room p.used p.plain.store n.line × (q ≡ behind_line p n)
+    (¬ IsUnreadable t (name_of n.line)) × (a ≡ answered p.plain n)
+    × HasRoom room p.used p.plain.store n.line × (q ≡ behind_line p n)
 LineSays t room p n (NoRoom number used more limit) q =
-    (¬ IsUnreadable t (name_of n.line)) × ActsOn p.plain.store n.line × (number ≡ n.number) × (used ≡ p.used)
-    × (more ≡ cost p.plain.store n.line) × (limit ≡ room) × (room < used + more) × (q ≡ p)
-LineSays t room p n (BadRecord number name) q = IsUnreadable t name × (number ≡ n.number) × (name ≡ name_of n.line) × (q ≡ p)
+    (¬ IsUnreadable t (name_of n.line)) × ActsOn p.plain.store n.line × (number ≡ n.number)
+    × (used ≡ p.used) × (more ≡ cost p.plain.store n.line) × (limit ≡ room)
+    × (room < used + more) × (q ≡ p)
+LineSays t room p n (BadRecord number name) q =
+    IsUnreadable t name × (number ≡ n.number) × (name ≡ name_of n.line) × (q ≡ p)
 
 -- What is said of the first lines, one after another; the lines that are left; and what stands
 -- behind those that were said.
-abbrev pub Says : Table → (room : ℕ) → Standing → List Numbered → List Said → List Numbered → Standing → Type 0
+abbrev pub Says : Table → (room : ℕ) → Standing → List Numbered → List Said → List Numbered
+    → Standing → Type 0
 Says t room p lines [] left q = (left ≡ lines) × (q ≡ p)
 Says t room p [] (s ∷ ss) left q = ⊥
-Says t room p (n ∷ ns) (s ∷ ss) left q = (m : Standing) × LineSays t room p n s m × Says t room m ns ss left q
+Says t room p (n ∷ ns) (s ∷ ss) left q =
+    (m : Standing) × LineSays t room p n s m × Says t room m ns ss left q
 
--- How a run of lines ends: all lines were said; or the sink failed at the last that was; or it
--- stopped in a line that was not said.
+-- How a run of lines ends: all lines were said; or the sink failed at the last that was, or there
+-- was no memory for its text; or the disk failed in a line, of which nothing else is said; or there
+-- was no memory to carry a line out.
 pub data Ending : Type 0 where
   Whole : Ending
   Unheard : Ending
-  Stopped : Numbered → Ending
+  Unwritten : Ending
+  Failed : Numbered → Ending
+  Lacking : Numbered → Ending
 
 -- the one is the other's beginning
 pub record IsFront (front whole : List ℕ) : Type 0 where
@@ -74,13 +106,15 @@ pub record IsFront (front whole : List ℕ) : Type 0 where
   pub joined : front ++ rest ≡ whole
 
 -- all was put, and no line is left: status 0
-pub record EndsWhole (said : List Said) (left : List Numbered) (put : List ℕ) (status : ℕ) : Type 0 where
+pub record EndsWhole (said : List Said) (left : List Numbered) (put : List ℕ) (status : ℕ)
+    : Type 0 where
   pub ended : status ≡ 0
   pub none_left : left ≡ []
   pub all : put ≡ texts_of said
 
 -- the sink failed at the last text, and has a beginning of it: status 8
-pub record EndsUnheard (sink_rose : Type 0) (said : List Said) (put : List ℕ) (status : ℕ) : Type 0 where
+pub record EndsUnheard (sink_rose : Type 0) (said : List Said) (put : List ℕ) (status : ℕ)
+    : Type 0 where
   pub ended : status ≡ 8
   pub cause : sink_rose
   pub before : List Said
@@ -90,57 +124,58 @@ pub record EndsUnheard (sink_rose : Type 0) (said : List Said) (put : List ℕ) 
   pub front : IsFront part (said_text last)
   pub heard : put ≡ texts_of before ++ part
 
--- The disk failed in a line, which is told: status 6.
-pub record EndsFailed (disk_rose : Type 0) (said : List Said) (n : Numbered) (put : List ℕ) (status : ℕ) : Type 0 where
-  pub ended : status ≡ 6
-  pub cause : disk_rose
-  pub all : put ≡ texts_of said ++ disk_fault_text n.number
-
--- The disk failed in a line, and the sink in telling it: status 8.
-pub record EndsFailedUnheard (disk_rose sink_rose : Type 0) (said : List Said) (n : Numbered) (put : List ℕ) (status : ℕ) : Type 0 where
-  pub ended : status ≡ 8
-  pub cause : disk_rose
-  pub sink_cause : sink_rose
-  pub part : List ℕ
-  pub front : IsFront part (disk_fault_text n.number)
-  pub heard : put ≡ texts_of said ++ part
-
--- memory lacked for a line or for its text: status 9
-pub record EndsLacking (said : List Said) (put : List ℕ) (status : ℕ) : Type 0 where
+-- the last line was carried out or refused, and there was no memory for its text: status 9
+pub record EndsUnwritten (said : List Said) (put : List ℕ) (status : ℕ) : Type 0 where
   pub ended : status ≡ 9
-  pub all : put ≡ texts_of said
+  pub before : List Said
+  pub last : Said
+  pub split : said ≡ before ++ last ∷ []
+  pub heard : put ≡ texts_of before
 
--- a line was not said, the first that is left
-pub record EndsStopped (disk_rose sink_rose : Type 0) (said : List Said) (left : List Numbered) (n : Numbered) (put : List ℕ) (status : ℕ) : Type 0 where
+-- that the disk failed in a line was told, or there was no memory for its text: status 6; or the
+-- sink failed in telling it, and has a beginning of it: status 8
+abbrev pub TellsFailure : (sink_rose : Type 0) → Numbered → List ℕ → ℕ → Type 0
+TellsFailure sink_rose n put status =
+    ((status ≡ 6) × ((put ≡ disk_fault_text n.number) ⊎ (put ≡ [])))
+    ⊎ ((status ≡ 8) × sink_rose × IsFront put (disk_fault_text n.number))
+
+-- the disk failed in a line, the first that is left: its count of faults rose
+pub record EndsFailed (disk_rose sink_rose : Type 0) (said : List Said) (left : List Numbered)
+    (n : Numbered) (put : List ℕ) (status : ℕ) : Type 0 where
   pub others : List Numbered
   pub at : left ≡ n ∷ others
-  pub how : EndsFailed disk_rose said n put status ⊎ EndsFailedUnheard disk_rose sink_rose said n put status ⊎ EndsLacking said put status
+  pub cause : disk_rose
+  pub part : List ℕ
+  pub told : TellsFailure sink_rose n part status
+  pub heard : put ≡ texts_of said ++ part
+
+-- there was no memory for a line, the first that is left, and it did nothing: status 9
+pub record EndsLacking (said : List Said) (left : List Numbered) (n : Numbered) (put : List ℕ)
+    (status : ℕ) : Type 0 where
+  pub ended : status ≡ 9
+  pub others : List Numbered
+  pub at : left ≡ n ∷ others
+  pub all : put ≡ texts_of said
 
 -- how a run of lines ended, by what was put and the status
-abbrev pub EndsAs : (disk_rose sink_rose : Type 0) → List Said → List Numbered → Ending → List ℕ → ℕ → Type 0
+abbrev pub EndsAs : (disk_rose sink_rose : Type 0) → List Said → List Numbered → Ending → List ℕ
+    → ℕ → Type 0
 EndsAs disk_rose sink_rose said left Whole put status = EndsWhole said left put status
 EndsAs disk_rose sink_rose said left Unheard put status = EndsUnheard sink_rose said put status
-EndsAs disk_rose sink_rose said left (Stopped n) put status = EndsStopped disk_rose sink_rose said left n put status
+EndsAs disk_rose sink_rose said left Unwritten put status = EndsUnwritten said put status
+EndsAs disk_rose sink_rose said left (Failed n) put status =
+    EndsFailed disk_rose sink_rose said left n put status
+EndsAs disk_rose sink_rose said left (Lacking n) put status = EndsLacking said left n put status
 
--- What is left stands for the store behind the lines that were said, with as much used; or, where a
--- line was not, for the store with its act too, whose cost is used then.
+-- what is left stands for the store behind the lines that were said, with as much used
+abbrev pub IsBehind : Standing → Durable → Type 0
+IsBehind q d = StandsFor d.table q.plain.store × (d.used ≡ q.used)
+
+-- What is left stands for the store behind the lines that were said; or, where the disk failed in
+-- one more line, for that store or the one with its act too, whose cost is used then.
 abbrev pub IsLeft : Standing → Ending → Durable → Type 0
-IsLeft q Whole d = StandsFor d.table q.plain.store × (d.used ≡ q.used)
-IsLeft q Unheard d = StandsFor d.table q.plain.store × (d.used ≡ q.used)
-IsLeft q (Stopped n) d = BeforeOrAfter q.plain n.line q.used d
-
--- lines were said in so much room from a map that stands for a store, with so much of the room used
-pub record SaysFrom (t : Table) (room : ℕ) (from : Standing) (lines : List Numbered) (said : List Said) (left : List Numbered) (ending : Ending) (new : StoreView) : Type 0 where
-  pub now : Standing
-  pub says : Says t room from lines said left now
-  pub before : Now new (λ s. IsLeft now ending s.before)
-  pub after_ : Now new (λ s. IsLeft now ending s.after)
-
--- Lines were carried out on a pool's store, and what is said of each was put before the next: what
--- was put, and the status.
-pub record TellsLines (lines : List Numbered) (old new : LogView) (disk_rose sink_rose : Type 0) (put : List ℕ) (status : ℕ) : Type 0 where
-  pub said : List Said
-  pub left : List Numbered
-  pub ending : Ending
-  pub ends : EndsAs disk_rose sink_rose said left ending put status
-  pub from : Holds (store_of old) (λ t. (store : Store) → StandsFor t store → SaysFrom t old.room (standing store old.used) lines said left ending (store_of new))
+IsLeft q Whole d = IsBehind q d
+IsLeft q Unheard d = IsBehind q d
+IsLeft q Unwritten d = IsBehind q d
+IsLeft q (Failed n) d = BeforeOrAfter q.plain n.line q.used d
+IsLeft q (Lacking n) d = IsBehind q d

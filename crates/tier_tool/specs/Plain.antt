@@ -13,7 +13,7 @@ use Rattle.tier_tool.specs.declared.task.Task.{Task}
 use Rattle.tier_tool.specs.declared.task.Task.TheVariants.{Op, Get}
 use Rattle.tier_tool.specs.declared.task.Numbered.{Numbered}
 use Rattle.tier_tool.specs.Answers.{of_request, of_reading}
-use Rattle.tier_tool.specs.declared.answer.Answer.{Answer}
+use Rattle.tier_chron.specs.declared.answer.Answer.{Answer}
 
 -- one store, and how many requests acted on it so far
 pub record Plain : Type 0 where
@@ -67,5 +67,6 @@ plain lines store = answers lines (begun store)
 -- how a store with its count is written down as a value of contracts
 abbrev pub coded_plain : Coded Plain
 coded_plain =
-    code_by (map.FinMap name_cmp NameState × ℕ) (coded× (map.code (coded_list coded_ℕ) state.the_row.coded) coded_ℕ)
+    code_by (map.FinMap name_cmp NameState × ℕ)
+    (coded× (map.code (coded_list coded_ℕ) state.the_row.coded) coded_ℕ)
     (λ p. (p.store, p.acts)) (λ c. record { store = c.0; acts = c.1 }) (λ _. refl)

@@ -11,13 +11,12 @@ ghost use Rattle.tier_tool.specs.declared.task.Task.TheVariants as line;
 ghost use Rattle.log_store.specs.Commits.{SameStore};
 ghost use Rattle.log_store.specs.Views.{store_of};
 ghost use Rattle.store_face.specs.Views.{Sound};
-ghost use Rattle.tier_tool.specs.Bases.{GoesOn, LineEnds};
+ghost use Rattle.tier_tool.specs.Steps.Serving.{GoesOn, LineEnds, LineUses};
 ghost use Rattle.tier_tool.specs.Costs.{state_key};
-ghost use Rattle.tier_tool.specs.Pools.{line_fault, Found, IsKnown, WasPut};
-ghost use Rattle.tier_tool.specs.Rooms.{LineUses, PutUses};
+ghost use Rattle.tier_tool.specs.Steps.Pools.{line_fault, Found, IsKnown, PutUses, WasPut};
 ghost use Rattle.tier_tool.specs.declared.base.LineFault.TheVariants.{NoMemory};
 
-use crate::answer::Answer;
+use crate::answers::{of_reading, replied};
 use crate::task::Task;
 use log_store::LogStore;
 use obj_model::{Bytes, Change, Name, NameState, NoMemory, Req, Vector};
@@ -25,6 +24,7 @@ use obj_ops::{Acted, act, look};
 use rec_codec::{read_state, write_state};
 use std::alloc::Global;
 use store_face::{Store, StoreFault};
+use tier_chron::Answer;
 use tier_outside::Disk;
 
 /// Why a line was not carried out.
@@ -90,9 +90,9 @@ fn request<D: Disk + Drop>(
     match act(alloc, &before, req)? {
         Acted::Fresh { state, reply } => {
             put_state(alloc, pool, &req.name, &state)?;
-            Ok((Answer::replied(reply, false), true))
+            Ok((replied(reply, false), true))
         }
-        Acted::Again { reply } => Ok((Answer::replied(reply, true), false)),
+        Acted::Again { reply } => Ok((replied(reply, true), false)),
         Acted::Stale { kept } => Ok((Answer::Stale { kept }, false)),
         Acted::Worn { limit } => Ok((Answer::Worn { limit }, false)),
     }
@@ -108,12 +108,15 @@ fn reading<D: Disk + Drop>(
     requires live { (store_of pool.old).live ≡ true }
     requires sound { Sound (store_of pool.old) }
     requires reads { list_any is_write vector.now ≡ false }
-    ensures ended { (client : ℕ) → LineEnds (line.Get client name.now vector.now) (store_of pool.old) (store_of pool.new) result }
-    ensures uses { (client : ℕ) → LineUses (line.Get client name.now vector.now) pool.old pool.new result }
+    ensures ended { (client : ℕ)
+        → LineEnds (line.Get client name.now vector.now) (store_of pool.old) (store_of pool.new)
+        result }
+    ensures uses { (client : ℕ)
+        → LineUses (line.Get client name.now vector.now) pool.old pool.new result }
     ensures same { pool.new ≡ pool.old }
 {
     match state_of(alloc, pool, name) {
-        Ok(state) => Ok((Answer::of_reading(look(alloc, &state, vector)?), false)),
+        Ok(state) => Ok((of_reading(look(alloc, &state, vector)?), false)),
         Err(fault) => Err(fault),
     }
 }

@@ -1,6 +1,7 @@
 //! What follows from the definition of the answers, in plain words. These calls do nothing: their
 //! contracts are the laws.
-ghost use Rattle.tier_tool.specs.Laws.{LaterLinesChangeNothing, RequestsMakeTheStore, TheNextRunGoesOn};
+ghost use Rattle.tier_tool.specs.Laws.{LaterLinesChangeNothing, RequestsMakeTheStore};
+ghost use Rattle.tier_tool.specs.Laws.{TheNextRunGoesOn};
 
 use crate::task::Numbered;
 
@@ -17,8 +18,8 @@ pub fn requests_make_the_store(_lines: &[Numbered])
     ensures { RequestsMakeTheStore _lines.now }
 {}
 
-/// A run that opens a disk which is a log goes on from the plain store that its map stands for, with
-/// as much of the room used: what was left by a stop, or by the end of the run before it, is what
+/// A run that opens a disk which is a log goes on from the plain store that its map stands for,
+/// with as much of the room used: what was left by a crash, or by the end of the run before it, is what
 /// the lines of the next one are answered from, and what their records come behind.
 pub fn the_next_run_goes_on()
     ensures { TheNextRunGoesOn }

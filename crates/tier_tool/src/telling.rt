@@ -1,74 +1,25 @@
-//! Puts the texts of a run into the sink, one text a call. The promise: what was put is what is
-//! said of the lines, in their order, and a line's text is put before the next line is carried out.
-ghost use Rattle.std.specs.Prelude.{◌≡◌, ◌≤◌, ◌<◌, ◌+◌, ◌-◌, ◌^◌, ◌++◌, [], ◌∷◌, true, OnOk, All};
+//! Carries lines out one after another, and puts what is said of each before the next, one text a
+//! call of the sink. The promise: what was put is what is said of the lines, in their order.
+ghost use Rattle.std.specs.Prelude.{◌≡◌, ◌≤◌, ◌<◌, ◌+◌, ◌-◌, ◌^◌, ◌++◌, true, All, OnOk};
 ghost use Rattle.log_store.specs.Commits.{SameStore};
 ghost use Rattle.log_store.specs.Views.{store_of};
-ghost use Rattle.tier_tool.specs.Tasks.{IsTask};
 ghost use Rattle.store_face.specs.Views.{Sound};
 ghost use Rattle.tier_outside.specs.Causes.{Rose};
-ghost use Rattle.tier_tool.specs.Bases.{GoesOn};
-ghost use Rattle.tier_tool.specs.Lines.{TellsLines};
-ghost use Rattle.tier_tool.specs.Main.{Took, Tells, MakesAndTells};
-ghost use Rattle.tier_tool.specs.Telling.{TellsLine, TellsUnopened};
-ghost use Rattle.tier_tool.specs.Texts.{bad_image_text, cause_text, disk_fault_text, fault_text, unbuilt_text, wrong_pair_text};
+ghost use Rattle.tier_tool.specs.Lines.{TellsFailure, disk_fault_text};
+ghost use Rattle.tier_tool.specs.Steps.Serving.{GoesOn};
+ghost use Rattle.tier_tool.specs.Steps.Telling.{TellsLine, TellsLines};
+ghost use Rattle.tool_jobs.specs.Putting.{Took};
+ghost use Rattle.tier_tool.specs.Tasks.{IsTask};
 
-use crate::ended::{ANSWERED, DISK_FAILED, IMAGE_REFUSED, OUT_OF_MEMORY, REFUSED, SINK_FAILED};
 use crate::saying::{Unsaid, say_line};
 use crate::task::Numbered;
-use crate::text::Text;
-use log_store::{AttachFault, LogStore};
-use obj_model::NoMemory;
-use script_lang::Cause;
+use log_store::LogStore;
+use obj_model::{NoMemory, Pool};
+use report_text::{Text, put_call};
 use std::alloc::Global;
+use tier_chron::Answer;
 use tier_outside::{Disk, Sink};
-
-/// Puts one text. The status is the one that is due where the sink takes it.
-pub fn tell<K: Sink>(text: &[u8], due: u8, out: &mut K) -> u8
-    ensures told { Took (K.held out.old) (K.held out.new) (λ put. Tells (text.now ∷ []) due (Rose (K.faults out.old) (K.faults out.new)) put result) }
-    ensures later { K.faults out.old ≤ K.faults out.new }
-{
-    match out.put(text) {
-        Ok(()) => due,
-        Err(_) => SINK_FAILED,
-    }
-}
-
-/// Puts the fault of a script.
-pub fn tell_fault<K: Sink>(alloc: Global, line: u32, cause: Cause, out: &mut K) -> u8
-    ensures told { Took (K.held out.old) (K.held out.new) (λ put. MakesAndTells (fault_text line cause ∷ []) 4 (Rose (K.faults out.old) (K.faults out.new)) put result) }
-    ensures later { K.faults out.old ≤ K.faults out.new }
-{
-    let mut text = Text::new(alloc);
-    if write_fault(line, &cause, &mut text).is_err() {
-        return OUT_OF_MEMORY;
-    }
-    tell(text.as_slice(), REFUSED, out)
-}
-
-/// Puts that the verb of a line is not built yet.
-pub fn tell_unbuilt<K: Sink>(alloc: Global, line: u32, out: &mut K) -> u8
-    ensures told { Took (K.held out.old) (K.held out.new) (λ put. MakesAndTells (unbuilt_text line ∷ []) 4 (Rose (K.faults out.old) (K.faults out.new)) put result) }
-    ensures later { K.faults out.old ≤ K.faults out.new }
-{
-    let mut text = Text::new(alloc);
-    if write_unbuilt(line, &mut text).is_err() {
-        return OUT_OF_MEMORY;
-    }
-    tell(text.as_slice(), REFUSED, out)
-}
-
-/// Puts why the base was not opened, where there is more to say than a status.
-pub fn tell_unopened<K: Sink>(alloc: Global, fault: AttachFault, out: &mut K) -> u8
-    ensures told { Took (K.held out.old) (K.held out.new) (λ put. TellsUnopened fault (Rose (K.faults out.old) (K.faults out.new)) put result) }
-    ensures later { K.faults out.old ≤ K.faults out.new }
-{
-    match fault {
-        AttachFault::Disk => DISK_FAILED,
-        AttachFault::BadImage { at } => tell_bad_image(alloc, at, out),
-        AttachFault::WrongPair { found, want } => tell_wrong_pair(alloc, found, want, out),
-        AttachFault::NoMemory => OUT_OF_MEMORY,
-    }
-}
+use tool_jobs::{ANSWERED, DISK_FAILED, OUT_OF_MEMORY, SINK_FAILED, tell};
 
 /// Carries all lines out on a live store, and puts what is said of each before the next is carried
 /// out.
@@ -81,7 +32,9 @@ pub fn tell_lines<D: Disk + Drop, K: Sink>(
     requires live { pool.old.live ≡ true }
     requires sound { Sound (store_of pool.old) }
     requires lawful { All (λ n. IsTask n.line) lines.now }
-    ensures told { Took (K.held out.old) (K.held out.new) (λ put. TellsLines lines.now pool.old pool.new (Rose pool.old.faults pool.new.faults) (Rose (K.faults out.old) (K.faults out.new)) put result) }
+    ensures told { Took (K.held out.old) (K.held out.new) (λ put. TellsLines lines.now pool.old
+        pool.new (Rose pool.old.faults pool.new.faults) (Rose (K.faults out.old) (K.faults out.new))
+        put result) }
     ensures same { SameStore pool.old pool.new }
     ensures goes_on { GoesOn (store_of pool.old) (store_of pool.new) }
     ensures sink_later { K.faults out.old ≤ K.faults out.new }
@@ -111,7 +64,9 @@ fn tell_line<D: Disk + Drop, K: Sink>(
     requires sound { Sound (store_of pool.old) }
     requires lawful { IsTask numbered.now.line }
     requires room { acts.old < 2 ^ 64 - 1 }
-    ensures told { Took (K.held out.old) (K.held out.new) (λ put. TellsLine numbered.now acts.old acts.new pool.old pool.new (Rose pool.old.faults pool.new.faults) (Rose (K.faults out.old) (K.faults out.new)) put result) }
+    ensures told { Took (K.held out.old) (K.held out.new) (λ put. TellsLine numbered.now acts.old
+        acts.new pool.old pool.new (Rose pool.old.faults pool.new.faults)
+        (Rose (K.faults out.old) (K.faults out.new)) put result) }
     ensures sound { Sound (store_of pool.new) }
     ensures same { SameStore pool.old pool.new }
     ensures goes_on { GoesOn (store_of pool.old) (store_of pool.new) }
@@ -124,122 +79,29 @@ fn tell_line<D: Disk + Drop, K: Sink>(
             Ok(()) => Ok(()),
             Err(_) => Err(SINK_FAILED),
         },
-        Err(Unsaid::Disk) => Err(tell_disk_fault(alloc, numbered.number, out)),
+        Err(Unsaid::Disk) => Err(tell_disk_fault(numbered, text, out)),
         Err(Unsaid::NoMemory) => Err(OUT_OF_MEMORY),
+        Err(Unsaid::Unwritten) => Err(OUT_OF_MEMORY),
     }
 }
 
-// Puts that the base's disk failed in a line.
-fn tell_disk_fault<K: Sink>(alloc: Global, number: u32, out: &mut K) -> u8
-    ensures told { Took (K.held out.old) (K.held out.new) (λ put. MakesAndTells (disk_fault_text number ∷ []) 6 (Rose (K.faults out.old) (K.faults out.new)) put result) }
+// Puts that the base's disk failed in a line, where there is the memory for it.
+fn tell_disk_fault<K: Sink>(numbered: &Numbered, text: &mut Text, out: &mut K) -> u8
+    ensures told { Took (K.held out.old) (K.held out.new) (λ put.
+        TellsFailure (Rose (K.faults out.old) (K.faults out.new)) numbered.now put result) }
     ensures later { K.faults out.old ≤ K.faults out.new }
 {
-    let mut text = Text::new(alloc);
-    if write_disk_fault(number, &mut text).is_err() {
-        return OUT_OF_MEMORY;
+    text.clear();
+    match write_disk_fault(numbered.number, text) {
+        Ok(()) => tell(text.as_slice(), DISK_FAILED, out),
+        Err(_) => DISK_FAILED,
     }
-    tell(text.as_slice(), DISK_FAILED, out)
 }
 
-// Puts that the base's disk holds no log of a base.
-fn tell_bad_image<K: Sink>(alloc: Global, at: u64, out: &mut K) -> u8
-    ensures told { Took (K.held out.old) (K.held out.new) (λ put. MakesAndTells (bad_image_text at ∷ []) 5 (Rose (K.faults out.old) (K.faults out.new)) put result) }
-    ensures later { K.faults out.old ≤ K.faults out.new }
-{
-    let mut text = Text::new(alloc);
-    if write_bad_image(at, &mut text).is_err() {
-        return OUT_OF_MEMORY;
-    }
-    tell(text.as_slice(), IMAGE_REFUSED, out)
-}
-
-// Puts that the base's disk holds the log of another pair.
-fn tell_wrong_pair<K: Sink>(alloc: Global, found: u64, want: u64, out: &mut K) -> u8
-    ensures told { Took (K.held out.old) (K.held out.new) (λ put. MakesAndTells (wrong_pair_text found want ∷ []) 5 (Rose (K.faults out.old) (K.faults out.new)) put result) }
-    ensures later { K.faults out.old ≤ K.faults out.new }
-{
-    let mut text = Text::new(alloc);
-    if write_wrong_pair(found, want, &mut text).is_err() {
-        return OUT_OF_MEMORY;
-    }
-    tell(text.as_slice(), IMAGE_REFUSED, out)
-}
-
-// Makes the text of a script's fault.
-fn write_fault(line: u32, cause: &Cause, text: &mut Text) -> Result<(), NoMemory>
-    ensures { OnOk result (text.new ≡ text.old ++ fault_text line cause.now) }
-{
-    text.push("script ")?;
-    text.push_number(u64::from(line))?;
-    text.push(" ")?;
-    write_cause(cause, text)?;
-    text.push("\n")
-}
-
-// Makes the text of a fault of the base's disk in a line.
+// The base's disk failed in a line.
 fn write_disk_fault(number: u32, text: &mut Text) -> Result<(), NoMemory>
     ensures { OnOk result (text.new ≡ text.old ++ disk_fault_text number) }
 {
-    text.push_number(u64::from(number))?;
-    text.push(" fault base\n")
-}
-
-// Makes the text for a disk whose log breaks at an offset.
-fn write_bad_image(at: u64, text: &mut Text) -> Result<(), NoMemory>
-    ensures { OnOk result (text.new ≡ text.old ++ bad_image_text at) }
-{
-    text.push("image base 0 bad ")?;
-    text.push_number(at)?;
-    text.push("\n")
-}
-
-// Makes the text for a disk of another pair than the one wanted.
-fn write_wrong_pair(found: u64, want: u64, text: &mut Text) -> Result<(), NoMemory>
-    ensures { OnOk result (text.new ≡ text.old ++ wrong_pair_text found want) }
-{
-    text.push("image base 0 pair ")?;
-    text.push_number(found)?;
-    text.push(" ")?;
-    text.push_number(want)?;
-    text.push("\n")
-}
-
-// Puts a cause behind the text, in words.
-fn write_cause(cause: &Cause, text: &mut Text) -> Result<(), NoMemory>
-    ensures { OnOk result (text.new ≡ text.old ++ cause_text cause.now) }
-{
-    match cause {
-        Cause::LeftOut(word) => {
-            text.push("left-out ")?;
-            text.push_bytes(word.as_slice())
-        }
-        Cause::Mixed(place) => {
-            text.push("mixed ")?;
-            text.push_number(*place as u64)
-        }
-        Cause::Byte => text.push("byte"),
-        Cause::Words => text.push("words"),
-        Cause::Verb => text.push("verb"),
-        Cause::Subop => text.push("subop"),
-        Cause::Mode => text.push("mode"),
-        Cause::Number => text.push("number"),
-        Cause::Client => text.push("client"),
-        Cause::Name => text.push("name"),
-        Cause::Hex => text.push("hex"),
-        Cause::Many => text.push("many"),
-        Cause::Heavy => text.push("heavy"),
-        Cause::Time => text.push("time"),
-        Cause::Par => text.push("par"),
-        Cause::Long => text.push("long"),
-        Cause::Lines => text.push("lines"),
-    }
-}
-
-// Makes the text of a line whose verb is not built yet.
-fn write_unbuilt(line: u32, text: &mut Text) -> Result<(), NoMemory>
-    ensures { OnOk result (text.new ≡ text.old ++ unbuilt_text line) }
-{
-    text.push("script ")?;
-    text.push_number(u64::from(line))?;
-    text.push(" unbuilt\n")
+    let failed = Answer::DiskFault { pool: Pool::Base };
+    put_call(text, number, &failed, 0)
 }

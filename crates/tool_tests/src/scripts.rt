@@ -1,15 +1,12 @@
 //! Runs that end before the base is opened: refused words and scripts, failing sources, and the
 //! limits.
-ghost use Rattle.std.specs.Prelude.{None, IfOk};
-ghost use Rattle.tier_tool.specs.Main.{IsOnePair};
+ghost use Rattle.std.specs.Prelude.{None};
 
-use crate::tools::memory;
-use mem_disk::{MemDisk, Pick};
+use crate::tools::{Called, call};
 use std::alloc::Global;
 use std::process::Abort;
 use std::test::Fail;
-use tier_outside::{MemSink, MemSource, Source, SourceFault};
-use tier_tool::{DiskPair, tier_main};
+use tier_outside::{MemSource, Source, SourceFault};
 
 // A source of so many bytes that are all newlines or all zero.
 #[derive(Drop)]
@@ -31,42 +28,6 @@ impl Source for Flood {
         }
         Ok(count)
     }
-}
-
-fn empty_pair(rt: &impl Abort, alloc: Global) -> Result<Vec<DiskPair<MemDisk>>, Fail>
-    ensures { IfOk result (λ disks. IsOnePair disks.items) }
-{
-    let pair = DiskPair {
-        cache: memory(rt, alloc, b"", None, 0, Pick::Old)?,
-        base: memory(rt, alloc, b"", None, 0, Pick::Old)?,
-        cache_room: 4096,
-        base_room: 4096,
-    };
-    Ok(vec![in alloc; pair]?)
-}
-
-fn words_of(alloc: Global, list: &[&str]) -> Result<Vec<String>, Fail> {
-    let mut words = Vec::new(alloc);
-    for word in list {
-        words.push(String::from_str(alloc, word)?)?;
-    }
-    Ok(words)
-}
-
-// A run over a source: its status, and the sink, which fails at the call of this number, where 0 is
-// none.
-fn run_over<S: Source>(
-    rt: &impl Abort,
-    alloc: Global,
-    words: &[&str],
-    source: &mut S,
-    sink_fails: u64,
-) -> Result<(u8, MemSink), Fail> {
-    let words = words_of(alloc, words)?;
-    let mut sink = MemSink::new(vec![in alloc; sink_fails]?);
-    let disks = empty_pair(rt, alloc)?;
-    let ended = tier_main(alloc, words.as_slice(), source, &mut sink, disks);
-    Ok((ended.status, sink))
 }
 
 #[test]
@@ -92,10 +53,10 @@ fn refused_scripts(rt: HostRuntime) -> Result<(), Fail> {
     ];
     for (script, text) in table {
         let mut source = MemSource::new(Vec::from_slice(alloc, script)?, Vec::new(alloc));
-        let (status, sink) = run_over(&rt, alloc, &["run"], &mut source, 0)?;
+        let Called { status, sink } = call(&rt, alloc, "run", &mut source, 1, 0)?;
         assert_eq!(rt; (status, sink.bytes()), (4, text));
         let mut source = MemSource::new(Vec::from_slice(alloc, script)?, Vec::new(alloc));
-        let (status, sink) = run_over(&rt, alloc, &["run"], &mut source, 1)?;
+        let Called { status, sink } = call(&rt, alloc, "run", &mut source, 1, 1)?;
         assert_eq!(rt; (status, sink.bytes().len()), (8, 0));
     }
     Ok(())
@@ -105,9 +66,9 @@ fn refused_scripts(rt: HostRuntime) -> Result<(), Fail> {
 #[test]
 fn failing_sources(rt: HostRuntime) -> Result<(), Fail> {
     let alloc = rt.alloc();
-    for call in [1u64, 2] {
-        let mut source = MemSource::new(vec![in alloc; b'\n'; 5000]?, vec![in alloc; call]?);
-        let (status, sink) = run_over(&rt, alloc, &["run"], &mut source, 1)?;
+    for at in [1u64, 2] {
+        let mut source = MemSource::new(vec![in alloc; b'\n'; 5000]?, vec![in alloc; at]?);
+        let Called { status, sink } = call(&rt, alloc, "run", &mut source, 1, 1)?;
         assert_eq!(rt; (status, sink.calls()), (7, 0));
     }
     Ok(())
@@ -116,37 +77,32 @@ fn failing_sources(rt: HostRuntime) -> Result<(), Fail> {
 #[test]
 fn words(rt: HostRuntime) -> Result<(), Fail> {
     let alloc = rt.alloc();
-    let usage =
-        "usage: run|check|show|gen [--paths] [--history] [--summary] [--count N] [--start N]\n";
-    let table: [&[&str]; 5] = [&[], &["run", "run"], &["check"], &["Run"], &["run", ""]];
-    for list in table {
+    for list in ["", "run run", "Run", "run ", "show", "run --summary"] {
         let mut source = MemSource::new(
             Vec::from_slice(alloc, b"get 1 a read 0 0\n")?,
             Vec::new(alloc),
         );
-        let (status, sink) = run_over(&rt, alloc, list, &mut source, 2)?;
-        assert_eq!(rt; (status, sink.bytes()), (2, usage.as_bytes()));
-        let (status, sink) = run_over(&rt, alloc, list, &mut source, 1)?;
+        let Called { status, sink } = call(&rt, alloc, list, &mut source, 1, 1)?;
         assert_eq!(rt; (status, sink.bytes().len()), (8, 0));
         assert_eq!(rt; source.calls(), 0);
     }
     Ok(())
 }
 
-// A run over a flood.
+// A run over a flood: its status, and the sink.
 fn run_over_flood(
     rt: &impl Abort,
     alloc: Global,
     left: usize,
     newlines: bool,
-) -> Result<(u8, MemSink), Fail> {
+) -> Result<Called, Fail> {
     let mut source = Flood { left, newlines };
-    run_over(rt, alloc, &["run"], &mut source, 0)
+    call(rt, alloc, "run", &mut source, 1, 0)
 }
 
 #[test]
 fn many_lines(rt: HostRuntime) -> Result<(), Fail> {
-    let (status, sink) = run_over_flood(&rt, rt.alloc(), 1_000_001, true)?;
+    let Called { status, sink } = run_over_flood(&rt, rt.alloc(), 1_000_001, true)?;
     assert_eq!(rt; (status, sink.bytes()), (4, b"script 0 lines\n".as_slice()));
     Ok(())
 }
@@ -154,7 +110,7 @@ fn many_lines(rt: HostRuntime) -> Result<(), Fail> {
 // Of both limits, that in bytes is tried first.
 #[test]
 fn many_bytes(rt: HostRuntime) -> Result<(), Fail> {
-    let (status, sink) = run_over_flood(&rt, rt.alloc(), 268_435_457, true)?;
+    let Called { status, sink } = run_over_flood(&rt, rt.alloc(), 268_435_457, true)?;
     assert_eq!(rt; (status, sink.bytes()), (4, b"script 0 long\n".as_slice()));
     Ok(())
 }

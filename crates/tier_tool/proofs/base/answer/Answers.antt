@@ -1,8 +1,7 @@
 use Rattle.std.proofs.Common.{sym, subst}
 use Rattle.tier_tool.specs.declared.task.Task.{Task}
 use Rattle.log_store.specs.Views.{store_of}
-use Rattle.tier_tool.specs.Bases.{LineEnds}
-use Rattle.tier_tool.specs.Rooms.{LineUses}
+use Rattle.tier_tool.specs.Steps.Serving.{LineEnds, LineUses}
 use Rattle.tier_tool.proofs.base.answer.Goals as goal
 
 pub returns-in-Get-clause-ended : goal.returns-in-Get-clause-ended

@@ -14,4 +14,4 @@ returns-clause-put g c =
 pub returns-clause-uses : goal.returns-clause-uses
 returns-clause-uses g c =
     rw c.line_fault.ensures (failed_uses c.args.name.now c.in_ok-key.key c.from_vec-value.result c.in_ok-write_state.field-0.items c.args.state.now c.args.pool.now c.commit.new.self c.in-Err.fault
-    c.in_ok-key.ensures.key c.from_vec-value.ensures c.in_ok-write_state.ensures.spelled c.in-Err.ensures.committed)
+    c.in_ok-key.ensures.key c.from_vec-value.ensures c.in_ok-write_state.ensures.spelled c.in-Err.ensures.committed c.in-Err.ensures.refused)

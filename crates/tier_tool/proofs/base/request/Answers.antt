@@ -2,9 +2,8 @@ use Rattle.std.proofs.Common.{refl, sym, ◌∙◌, true, false}
 use Rattle.obj_ops.specs.declared.request.Acted.TheVariants.{Again, Stale, Worn}
 use Rattle.tier_tool.specs.declared.task.Task.TheVariants.{Op}
 use Rattle.log_store.specs.Views.{store_of}
-use Rattle.tier_tool.specs.Bases.{LineEnds}
-use Rattle.tier_tool.specs.Rooms.{LineUses}
-use Rattle.tier_tool.specs.declared.answer.Answer.TheVariants as answer
+use Rattle.tier_tool.specs.Steps.Serving.{LineEnds, LineUses}
+use Rattle.tier_chron.specs.declared.answer.Answer.TheVariants as answer
 use Rattle.tier_tool.proofs.Rooms.{acted_uses, not_put_uses, unchanged_uses}
 use Rattle.tier_tool.proofs.Outcomes.{ends_unchanged, ends_acted, ends_not_put, given_back}
 use Rattle.tier_tool.proofs.base.request.Goals as goal

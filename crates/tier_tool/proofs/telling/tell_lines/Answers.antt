@@ -1,7 +1,7 @@
 use Rattle.std.proofs.Common.{◌≡◌, ◌+◌, ◌∷◌, [], ◌++◌, drop, ap, sym, ◌∙◌, arith}
 use Rattle.std.proofs.lemmas.List.{drop_all, drop_more}
-use Rattle.tier_tool.proofs.Said.{ended_at, same_store, tells_whole, told_next, told_none}
-use Rattle.tier_tool.proofs.Told.{gains_more, gains_none, rose_later}
+use Rattle.tier_tool.proofs.LinesTold.{ended_at, same_store, tells_whole, told_next, told_none}
+use Rattle.tool_jobs.proofs.Told.{gains_more, gains_none, rose_later}
 use Rattle.tier_tool.proofs.Views.{goes_further}
 use Rattle.tier_tool.proofs.telling.tell_lines.Goals as goal
 

@@ -1,6 +1,6 @@
 use Rattle.std.proofs.Common.{◌≤◌, drop}
-use Rattle.tier_tool.specs.Main.{Took}
-use Rattle.tier_tool.specs.Telling.{ToldSoFar}
+use Rattle.tier_tool.specs.Steps.Telling.{ToldSoFar}
+use Rattle.tool_jobs.specs.Putting.{Took}
 use Rattle.tier_tool.proofs.telling.tell_lines.Given as goal
 
 abbrev pub invariant-loop-numbered : goal.invariant-loop-numbered

@@ -1,0 +1,4 @@
+pub mod Pools
+pub mod Serving
+pub mod Telling
+pub mod Opening
