@@ -13,7 +13,7 @@ colder_too t a b l = grind (arith)
 
 pub counts_rise : (rows : List Row) (a b : ℕ) → a ≤ b →
     count_by (λ (r : Row). nat_lt r.temperature a) rows ≤ count_by
-        (λ (r : Row). nat_lt r.temperature b) rows
+    (λ (r : Row). nat_lt r.temperature b) rows
 counts_rise rows a b l =
     sum_by-le-sum_by
     (λ (r : Row). cond (nat_lt r.temperature a) 1 0)

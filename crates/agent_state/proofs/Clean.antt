@@ -41,7 +41,7 @@ slopped v old target = with_slop (rests_flush old.flush) (slop_of v.cache_target
 pub clean : (v : PoolValues) (s : Share) → CleanIsNotFlushed v s
 clean v s ws old h =
     ap₂ (λ p d. flush_of v old.flush p d)
-        (ap (λ d. fill_of d (totals_of ws) s) (none_dirty ws h) ∙ no_fill (totals_of ws) s)
-        (none_dirty ws h)
+    (ap (λ d. fill_of d (totals_of ws) s) (none_dirty ws h) ∙ no_fill (totals_of ws) s)
+    (none_dirty ws h)
     ∙ idle_at (slopped v old v.cache_target_dirty_ratio)
-        (slopped v old v.cache_target_dirty_high_ratio)
+    (slopped v old v.cache_target_dirty_high_ratio)

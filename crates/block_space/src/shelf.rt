@@ -1,6 +1,7 @@
 //! The numbers that were given back, of which the least is found in the logarithm of their number.
 //!
-//! Contracts see them as a list in rising order, and beside it how many more fit with no more memory.
+//! Contracts see them as a list in rising order, and beside it how many more fit with no more
+//! memory.
 ghost use Rattle.std.specs.Prelude.{◌≡◌, ◌+◌, ◌-◌, ◌<◌, ◌≤◌, List, [], ◌∷◌, length, max, MatchOption, OnOk, OnErr};
 ghost use Rattle.block_space.specs.Numbers.{placed};
 
@@ -26,9 +27,13 @@ impl Model for Shelf {
 
     ghost Value = { views.Shelf };
 
-    ghost view = { λ s. record { numbers = in_order (map (λ r. r.0) (heap_items s.heap)); spare = s.spare } };
+    ghost view = { λ s. record {
+      numbers = in_order (map (λ r. r.0) (heap_items s.heap));
+      spare = s.spare;
+    } };
 
-    ghost invariant = { λ s. IsHeap (λ x y. nat_cmp y.0 x.0) (heap_items s.heap) × (heap_len s.heap + s.spare ≤ heap_capacity s.heap) };
+    ghost invariant = { λ s. IsHeap (λ x y. nat_cmp y.0 x.0) (heap_items s.heap)
+        × (heap_len s.heap + s.spare ≤ heap_capacity s.heap) };
 }
 
 impl Shelf {
@@ -64,7 +69,10 @@ impl Shelf {
     /// Puts a number among the others, in the room that was made for it.
     pub(crate) fn put(&mut self, number: u32)
         requires { 1 ≤ self.old.spare }
-        ensures { self.new ≡ record { numbers = placed number self.old.numbers; spare = self.old.spare - 1 } }
+        ensures { self.new ≡ record {
+          numbers = placed number self.old.numbers;
+          spare = self.old.spare - 1;
+        } }
     {
         self.spare -= 1;
         let Ok(()) = self.heap.push(Reverse(number)) else {

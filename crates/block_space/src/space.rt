@@ -12,8 +12,10 @@ use std::marker::Model;
 
 /// The set of free block numbers below a limit.
 ///
-/// Contracts see it as the limit, the free numbers in rising order, and `spare`, the number of blocks that can be given
-/// back before memory has to be reserved again. A new set takes no memory; the numbers given back take four bytes each
+/// Contracts see it as the limit, the free numbers in rising order, and `spare`, the number of
+/// blocks that can be given
+/// back before memory has to be reserved again. A new set takes no memory; the numbers given back
+/// take four bytes each
 /// while they are free again.
 #[derive(Drop)]
 pub struct BlockSpace {
@@ -42,9 +44,14 @@ impl Model for BlockSpace {
 }
 
 impl BlockSpace {
-    /// All numbers below `limit` are free. It keeps `alloc` for what it allocates later, and allocates nothing itself.
+    /// All numbers below `limit` are free. It keeps `alloc` for what it allocates later, and
+    /// allocates nothing itself.
     pub fn new(alloc: Global, limit: u32) -> Result<BlockSpace, NoMemory>
-        ensures { IfOk result (λ space. space ≡ record { limit = limit; free = range_with_len 0 limit; spare = 0 }) }
+        ensures { IfOk result (λ space. space ≡ record {
+          limit = limit;
+          free = range_with_len 0 limit;
+          spare = 0;
+        }) }
     {
         Ok(BlockSpace {
             alloc,
@@ -66,8 +73,10 @@ impl BlockSpace {
 
     /// Takes the `count` lowest free numbers, and gives them in rising order.
     ///
-    /// Each costs about the logarithm of the number of blocks that were given back and are free, or nothing but an
-    /// addition where none are. Answers `NoRoom` with the number of free blocks exactly where fewer than `count` are free,
+    /// Each costs about the logarithm of the number of blocks that were given back and are free, or
+    /// nothing but an
+    /// addition where none are. Answers `NoRoom` with the number of free blocks exactly where fewer
+    /// than `count` are free,
     /// and `NoMemory` where there is no memory for the list; then nothing has changed.
     pub fn take(&mut self, count: u32) -> Result<Vec<u32>, TakeFault>
         ensures enough { OnOk result (count ≤ length self.old.free) }
@@ -106,22 +115,28 @@ impl BlockSpace {
         block
     }
 
-    /// Makes a number free again, in the memory that `reserve` made ready; it needs no more, and cannot fail.
+    /// Makes a number free again, in the memory that `reserve` made ready; it needs no more, and
+    /// cannot fail.
     ///
     /// The cost is about the logarithm of the number of blocks that were given back and are free.
     pub fn give(&mut self, block: u32)
         requires spare { 1 ≤ self.old.spare }
         requires in_range { block < self.old.limit }
         requires taken { ¬ Contains self.old.free block }
-        ensures given { self.new ≡ record self.old { free = placed block self.old.free; spare = self.old.spare - 1 } }
+        ensures given { self.new ≡ record self.old {
+          free = placed block self.old.free;
+          spare = self.old.spare - 1;
+        } }
         ensures one_more { IsPermutation (block ∷ self.old.free) self.new.free }
     {
         self.returned.put(block);
     }
 
-    /// Makes memory ready so that `spare` numbers can be given back, those included for which it was ready already.
+    /// Makes memory ready so that `spare` numbers can be given back, those included for which it
+    /// was ready already.
     ///
-    /// The memory grows by doubling, so that calls before each commit cost a constant for each number in the long run.
+    /// The memory grows by doubling, so that calls before each commit cost a constant for each
+    /// number in the long run.
     /// Answers `NoMemory` where it cannot grow; then nothing has changed.
     pub fn reserve(&mut self, spare: u32) -> Result<(), NoMemory>
         ensures ok { OnOk result (self.new ≡ record self.old { spare = max self.old.spare spare }) }

@@ -91,8 +91,10 @@ fn shown(
     Ok(text)
 }
 
-// A step, and all that the map then shows. Changes are seen once they are applied, and applied once;
-// what is forgotten is not made; what is prepared later stands in place of what was prepared before.
+// A step, and all that the map then shows. Changes are seen once they are applied, and applied
+// once;
+// what is forgotten is not made; what is prepared later stands in place of what was prepared
+// before.
 const STEPS: &str = "prepare b=1 a= =>
 apply => a= b=1
 prepare a=22 -b => a= b=1

@@ -31,5 +31,6 @@ has_mark m n = kind_contains (kind_of m) (marked_names m) n
 
 -- one name was inserted: the answer, and the names afterwards
 abbrev pub Inserts : Marks → List ℕ → Marks → Result Bool NoMemory → Type 0
-Inserts m n after (Ok new) = (new ≡ not (has_mark m n)) × (kind_of after ≡ kind_of m) × (marked_names after ≡ grown (has_mark m n) (marked_names m) n)
+Inserts m n after (Ok new) = (new ≡ not (has_mark m n)) × (kind_of after ≡ kind_of m)
+    × (marked_names after ≡ grown (has_mark m n) (marked_names m) n)
 Inserts m n after (Err e) = (after ≡ m) × (IsBloom (kind_of m) → ⊥)

@@ -8,7 +8,8 @@ use Rattle.name_hash.specs.Fnv.{hash_of}
 use Rattle.hit_sets.specs.declared.kind.HitKind.{HitKind}
 use Rattle.hit_sets.specs.declared.kind.HitKind.TheVariants.{ExplicitHash, ExplicitObject, Bloom}
 
--- a hit set: its kind, the moment from which it counts, and the names whose insertion changed it, oldest first
+-- a hit set: its kind, the moment from which it counts, and the names whose insertion changed it,
+-- oldest first
 pub record Hits : Type 0 where
   pub kind : HitKind
   pub start : ℕ
@@ -32,9 +33,11 @@ bits_of fpp = if fpp == 1000 then 61440 else (if fpp == 10000 then 40960 else 28
 
 -- the numbers of the places of a name in a Bloom set with this rate
 abbrev pub ranks_of : ℕ → List ℕ
-ranks_of fpp = take (if fpp == 1000 then 10 else (if fpp == 10000 then 7 else 4)) (0 ∷ 1 ∷ 2 ∷ 3 ∷ 4 ∷ 5 ∷ 6 ∷ 7 ∷ 8 ∷ 9 ∷ [])
+ranks_of fpp = take (if fpp == 1000 then 10 else (if fpp == 10000 then 7 else 4))
+    (0 ∷ 1 ∷ 2 ∷ 3 ∷ 4 ∷ 5 ∷ 6 ∷ 7 ∷ 8 ∷ 9 ∷ [])
 
--- a place of a hash among so many bits: its lower half, and its upper half made odd as often as the rank says
+-- a place of a hash among so many bits: its lower half, and its upper half made odd as often as the
+-- rank says
 abbrev pub hash_place : ℕ → ℕ → ℕ → ℕ
 hash_place bits hash rank = (hash % 2 ^ 32 + rank * bit_or (hash / 2 ^ 32) 1) % bits
 

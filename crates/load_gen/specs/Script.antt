@@ -37,7 +37,8 @@ line_from (word ∷ next ∷ words) = word ++ (codes " " ++ line_from (next ∷ 
 
 -- the words of a request to write, which carries its place and the state's sixteen digits
 abbrev pub write_words : List ℕ → ℕ → ℕ → List (List ℕ)
-write_words verb place x = codes "op" ∷ decimal (client_of x) ∷ decimal place ∷ name_of x ∷ verb ∷ hex_digits 16 x ∷ []
+write_words verb place x = codes "op" ∷ decimal (client_of x) ∷ decimal place ∷ name_of x ∷ verb ∷
+    hex_digits 16 x ∷ []
 
 -- the words of a request to read
 abbrev pub read_words : List (List ℕ) → ℕ → List (List ℕ)
@@ -57,4 +58,5 @@ line_of place x = line_from (words_of place x)
 
 -- the script: the lines of the places from 1 to the count, one after the other
 abbrev pub script_of : ℕ → ℕ → List ℕ
-script_of count start = flat_map (λ place. line_of place (state_at start place)) (range_with_len 1 count)
+script_of count start = flat_map (λ place. line_of place (state_at start place))
+    (range_with_len 1 count)

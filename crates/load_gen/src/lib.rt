@@ -1,4 +1,5 @@
-//! The generated load: a script of reads and writes of 3,000 names by 16 clients, from a count and a start number.
+//! The generated load: a script of reads and writes of 3,000 names by 16 clients, from a count and
+//! a start number.
 //!
 //! Carries the promise that the script is exactly the lines of its definition, one for each place.
 #![tactic(auto)]
@@ -28,11 +29,15 @@ impl<T: Drop> From<AllocFailed<T>> for NoMemory {
 
 /// The script of `count` lines that begins after the state `start`, as the bytes of its text.
 ///
-/// The state of a line is the one before it times 6364136223846793005 plus 1442695040888963407, modulo 2^64. Bits of the
-/// state choose the kind, the client from 1 to 16 and the name from `o0` to `o2999`; a write carries the state as sixteen
-/// lower-case hexadecimal digits and the line's number, from 1, as its request number. Equal arguments give equal scripts.
+/// The state of a line is the one before it times 6364136223846793005 plus 1442695040888963407,
+/// modulo 2^64. Bits of the
+/// state choose the kind, the client from 1 to 16 and the name from `o0` to `o2999`; a write
+/// carries the state as sixteen
+/// lower-case hexadecimal digits and the line's number, from 1, as its request number. Equal
+/// arguments give equal scripts.
 ///
-/// The time is linear in `count`; the text grows in one buffer. Answers `NoMemory` where that cannot grow.
+/// The time is linear in `count`; the text grows in one buffer. Answers `NoMemory` where that
+/// cannot grow.
 pub fn load_script(alloc: Global, count: u32, start: u64) -> Result<Vec<u8>, NoMemory>
     ensures { IfOk result (λ script. script.items ≡ script_of count start) }
 {

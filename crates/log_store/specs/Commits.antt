@@ -12,7 +12,10 @@ use Rattle.log_store.specs.Views.{LogView}
 
 -- what a log holds with changes more: the map with them, and their record behind what was used
 abbrev pub with_changes : List Change → Durable → Durable
-with_changes changes d = record { table = changed_by d.table changes; used = d.used + record_size changes }
+with_changes changes d = record {
+  table = changed_by d.table changes;
+  used = d.used + record_size changes;
+}
 
 -- an image holds the log of before, or the one with the changes
 abbrev pub WithOrWithout : Pool → ℕ → List Change → Durable → List ℕ → Type 0

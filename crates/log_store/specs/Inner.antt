@@ -31,7 +31,8 @@ held journal t = record { table = t; used = journal.next + 1 }
 
 -- Whatever a crash leaves holds one of the two of the last moment. In a live store these are one,
 -- with the map in memory, and its log stands on the disk.
-pub record IsWhole (role : Pool) (pair : ℕ) (journal : Journal) (map : PoolView) (live : Bool) (disk : Option (List DiskMoment)) (past : List CrashMaps) : Type 0 where
+pub record IsWhole (role : Pool) (pair : ℕ) (journal : Journal) (map : PoolView) (live : Bool)
+    (disk : Option (List DiskMoment)) (past : List CrashMaps) : Type 0 where
   pub journal_is : IsLogJournal journal
   pub rested : map.ready ≡ []
   pub holds : EachHolds role pair disk (last past)

@@ -19,17 +19,20 @@ use Rattle.log_store.specs.declared.fault.Found.TheVariants as found
 -- an image is opened as this log: it is blank for the pair, and then the log is new, or it holds
 -- the log
 abbrev pub OpensAs : Pool → ℕ → Durable → List ℕ → Type 0
-OpensAs role pair log image = (IsBlank role pair image × (log ≡ no_txns)) ⊎ HoldsLog role pair image log
+OpensAs role pair log image = (IsBlank role pair image × (log ≡ no_txns))
+    ⊎ HoldsLog role pair image log
 
 -- What a stop may leave while a store is opened: what a stop might leave before; or, where such an
 -- image was blank, one that is still blank, or that holds a log without transactions.
 abbrev pub OpeningStops : Pool → ℕ → DiskMoment → List ℕ → Type 0
 OpeningStops role pair d image =
     IsImage d image
-    ⊎ ((was : List ℕ) × IsImage d was × IsBlank role pair was × (IsBlank role pair image ⊎ HoldsLog role pair image no_txns))
+    ⊎ ((was : List ℕ) × IsImage d was × IsBlank role pair was
+    × (IsBlank role pair image ⊎ HoldsLog role pair image no_txns))
 
 -- a store was opened
-pub record Opened (role : Pool) (pair room : ℕ) (moments : Option (List DiskMoment)) (v : LogView) : Type 0 where
+pub record Opened (role : Pool) (pair room : ℕ) (moments : Option (List DiskMoment)) (v : LogView) :
+    Type 0 where
   pub live : v.live ≡ true
   pub role_is : v.role ≡ role
   pub pair_is : v.pair ≡ pair
@@ -42,8 +45,10 @@ pub record Opened (role : Pool) (pair room : ℕ) (moments : Option (List DiskMo
 -- one of another pair.
 abbrev pub Refused : Pool → ℕ → Option (List DiskMoment) → (failed : Type 0) → AttachFault → Type 0
 Refused role pair moments failed fault.Disk = failed
-Refused role pair moments failed (fault.BadImage at) = SomeImage moments (λ image. IsBad role pair image at)
-Refused role pair moments failed (fault.WrongPair other want) = (want ≡ pair) × (other ≢ pair) × SomeImage moments (IsOf role other)
+Refused role pair moments failed (fault.BadImage at) = SomeImage moments
+    (λ image. IsBad role pair image at)
+Refused role pair moments failed (fault.WrongPair other want) = (want ≡ pair) × (other ≢ pair)
+    × SomeImage moments (IsOf role other)
 Refused role pair moments failed fault.NoMemory = Unit {0}
 
 -- What is refused for what stands on it is not written: a stop leaves of it what it might have left
@@ -56,11 +61,13 @@ KeepsRefused old new fault.NoMemory = Unit {0}
 
 -- what was found by a look: an empty disk, or the pair of the log that it holds; or why it is
 -- refused
-abbrev pub PeekEnds : Pool → Option (List DiskMoment) → (failed : Type 0) → Result Found AttachFault → Type 0
+abbrev pub PeekEnds : Pool → Option (List DiskMoment) → (failed : Type 0) → Result Found AttachFault
+    → Type 0
 PeekEnds role moments failed (Ok found.Empty) = SomeImage moments (IsEmpty role)
 PeekEnds role moments failed (Ok (found.Pair pair)) = SomeImage moments (IsHeaded role pair)
 PeekEnds role moments failed (Err fault.Disk) = failed
-PeekEnds role moments failed (Err (fault.BadImage at)) = SomeImage moments (λ image. IsMisheaded role image at)
+PeekEnds role moments failed (Err (fault.BadImage at)) = SomeImage moments
+    (λ image. IsMisheaded role image at)
 PeekEnds role moments failed (Err (fault.WrongPair other want)) = ⊥
 PeekEnds role moments failed (Err fault.NoMemory) = ⊥
 
@@ -68,7 +75,8 @@ PeekEnds role moments failed (Err fault.NoMemory) = ⊥
 -- and pair.
 abbrev pub NotReread : Pool → ℕ → Option (List DiskMoment) → (failed : Type 0) → StoreFault → Type 0
 NotReread role pair moments failed store.Disk = failed
-NotReread role pair moments failed (store.BadImage at) = SomeImage moments (λ image. (log : Durable) → ¬ HoldsLog role pair image log)
+NotReread role pair moments failed (store.BadImage at) = SomeImage moments
+    (λ image. (log : Durable) → ¬ HoldsLog role pair image log)
 NotReread role pair moments failed store.NoMemory = Unit {0}
 NotReread role pair moments failed (store.NoSpace used need limit) = ⊥
 NotReread role pair moments failed (store.Worn limit) = ⊥

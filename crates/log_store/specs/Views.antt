@@ -44,9 +44,11 @@ EachHolds role pair moments s = Now moments (λ d. EachImage d (HoldsEither role
 -- how it is written down as a value of contracts
 abbrev pub coded_log : Coded LogView
 coded_log =
-    code_by ((Option (List DiskMoment) × (ℕ × Bool)) × ((Pool × (ℕ × (ℕ × ℕ))) × Option (List CrashMaps)))
+    code_by ((Option (List DiskMoment) × (ℕ × Bool))
+    × ((Pool × (ℕ × (ℕ × ℕ))) × Option (List CrashMaps)))
     (coded× (coded× (coded_option (coded_list coded_moment)) (coded× coded_ℕ coded_bool))
-    (coded× (coded× pool.the_row.coded (coded× coded_ℕ (coded× coded_ℕ coded_ℕ))) (coded_option (coded_list coded_crash))))
+    (coded× (coded× pool.the_row.coded (coded× coded_ℕ (coded× coded_ℕ coded_ℕ)))
+    (coded_option (coded_list coded_crash))))
     (λ v. ((v.disk, (v.faults, v.live)), ((v.role, (v.pair, (v.room, v.used))), v.moments)))
     (λ c. record {
       disk = c.0.0;

@@ -58,11 +58,16 @@ pub(crate) fn open<D: Disk>(
     role: Pool,
     pair: u64,
 ) -> Result<(Journal, PoolMap), AttachFault>
-    ensures opened { IfOk result (λ opened. SomeImage (D.moments disk.old) (OpensAs role pair (record { table = opened.1.table; used = opened.0.next + 1 }))) }
+    ensures opened { IfOk result (λ opened. SomeImage (D.moments disk.old) (OpensAs role pair (record {
+      table = opened.1.table;
+      used = opened.0.next + 1;
+    }))) }
     ensures journal { IfOk result (λ opened. IsLogJournal opened.0) }
     ensures rested { IfOk result (λ opened. opened.1.ready ≡ []) }
-    ensures stands { IfOk result (λ opened. Now (D.moments disk.new) (LogStands role pair opened.0 opened.1.table)) }
-    ensures refused { IfErr result (Refused role pair (D.moments disk.old) (Rose (D.faults disk.old) (D.faults disk.new))) }
+    ensures stands { IfOk result (λ opened. Now (D.moments disk.new)
+        (LogStands role pair opened.0 opened.1.table)) }
+    ensures refused { IfErr result (Refused role pair (D.moments disk.old)
+        (Rose (D.faults disk.old) (D.faults disk.new))) }
     ensures kept { IfErr result (KeepsRefused (D.moments disk.old) (D.moments disk.new)) }
     ensures stops { Leaves (D.moments disk.old) (D.moments disk.new) (OpeningStops role pair) }
     ensures later { D.faults disk.old ≤ D.faults disk.new }
@@ -105,11 +110,16 @@ pub(crate) fn reread<D: Disk>(
     role: Pool,
     pair: u64,
 ) -> Result<(Journal, PoolMap), StoreFault>
-    ensures read { IfOk result (λ opened. SomeImage (D.moments disk.old) (λ image. HoldsLog role pair image (record { table = opened.1.table; used = opened.0.next + 1 }))) }
+    ensures read { IfOk result (λ opened. SomeImage (D.moments disk.old) (λ image. HoldsLog role pair image (record {
+      table = opened.1.table;
+      used = opened.0.next + 1;
+    }))) }
     ensures journal { IfOk result (λ opened. IsLogJournal opened.0) }
     ensures rested { IfOk result (λ opened. opened.1.ready ≡ []) }
-    ensures stands { IfOk result (λ opened. Now (D.moments disk.new) (LogStands role pair opened.0 opened.1.table)) }
-    ensures refused { IfErr result (NotReread role pair (D.moments disk.old) (Rose (D.faults disk.old) (D.faults disk.new))) }
+    ensures stands { IfOk result (λ opened. Now (D.moments disk.new)
+        (LogStands role pair opened.0 opened.1.table)) }
+    ensures refused { IfErr result (NotReread role pair (D.moments disk.old)
+        (Rose (D.faults disk.old) (D.faults disk.new))) }
     ensures stops { Leaves (D.moments disk.old) (D.moments disk.new) IsImage }
     ensures later { D.faults disk.old ≤ D.faults disk.new }
 {

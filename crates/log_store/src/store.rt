@@ -55,9 +55,19 @@ impl<D: Disk + Drop> Model for LogStore<D> {
 
     ghost coded = { coded_log };
 
-    ghost view = { λ s. record { disk = D.moments s.disk; faults = D.faults s.disk; live = s.live; role = s.role; pair = s.pair; room = s.journal.end; used = s.journal.next + 1; moments = told (D.moments s.disk) (map crash_of s.past.items) } };
+    ghost view = { λ s. record {
+      disk = D.moments s.disk;
+      faults = D.faults s.disk;
+      live = s.live;
+      role = s.role;
+      pair = s.pair;
+      room = s.journal.end;
+      used = s.journal.next + 1;
+      moments = told (D.moments s.disk) (map crash_of s.past.items);
+    } };
 
-    ghost invariant = { λ s. IsWhole s.role s.pair s.journal s.pool s.live (D.moments s.disk) (map crash_of s.past.items) };
+    ghost invariant = { λ s. IsWhole s.role s.pair s.journal s.pool s.live (D.moments s.disk)
+        (map crash_of s.past.items) };
 }
 
 // Copies of the changes.
@@ -91,7 +101,10 @@ fn change(pool: &mut PoolMap, past: &mut Vec<Moment>, used: u64, behind: u64)
 // A crash leaves this map and no other.
 fn settle(pool: &PoolMap, past: &mut Vec<Moment>, used: u64)
     requires { vec_len past.old < vec_capacity past.old }
-    ensures { map crash_of past.new.items ≡ map crash_of past.old.items ++ alone (record { table = pool.now.table; used = used }) ∷ [] }
+    ensures { map crash_of past.new.items ≡ map crash_of past.old.items ++ alone (record {
+      table = pool.now.table;
+      used = used;
+    }) ∷ [] }
 {
     let before = Held::of(pool, used);
     let after = Held::of(pool, used);
@@ -118,7 +131,8 @@ impl<D: Disk + Drop> LogStore<D> {
         ensures sound { IfOk result (λ s. Sound (store_of s)) }
         ensures stops { IfOk result (λ s. Leaves (D.moments disk) s.disk (OpeningStops role pair)) }
         ensures later { IfOk result (λ s. D.faults disk ≤ s.faults) }
-        ensures refused { IfErr result (λ e. Refused role pair (D.moments disk) (Rose (D.faults disk) (D.faults e.1)) e.0) }
+        ensures refused { IfErr result (λ e. Refused role pair (D.moments disk)
+            (Rose (D.faults disk) (D.faults e.1)) e.0) }
         ensures kept { IfErr result (λ e. KeepsRefused (D.moments disk) (D.moments e.1) e.0) }
         ensures stops_refused { IfErr result (λ e. Leaves (D.moments disk) (D.moments e.1) (OpeningStops role pair)) }
         ensures later_refused { IfErr result (λ e. D.faults disk ≤ D.faults e.1) }
@@ -206,7 +220,8 @@ impl<D: Disk + Drop> Store for LogStore<D> {
         ensures committed { Committed changes.now (store_of self.old) (store_of self.new) result }
         ensures sound { Sound (store_of self.new) }
         ensures any_moment { Leaves self.old.disk self.new.disk
-            (λ d image. store.Now (store_of self.old) (λ s. WithOrWithout self.old.role self.old.pair changes.now s.before image)) }
+            (λ d image. store.Now (store_of self.old)
+            (λ s. WithOrWithout self.old.role self.old.pair changes.now s.before image)) }
         ensures refused { KeepsAll self.old self.new result }
         ensures same { SameStore self.old self.new }
     {
@@ -239,7 +254,8 @@ impl<D: Disk + Drop> Store for LogStore<D> {
         ensures sound { Sound (store_of self.new) }
         ensures any_moment { Leaves self.old.disk self.new.disk IsImage }
         ensures read { IfOk result (λ done. SomeImage self.old.disk
-            (λ image. store.Now (store_of self.new) (λ s. HoldsLog self.old.role self.old.pair image s.before))) }
+            (λ image. store.Now (store_of self.new)
+            (λ s. HoldsLog self.old.role self.old.pair image s.before))) }
         ensures same { SameStore self.old self.new }
     {
         self.live = false;

@@ -60,7 +60,8 @@ torn_where listed = if listed then Torn else Works
 -- and at the stop it is torn.
 abbrev pub turn_at : Option ℕ → ℕ → Bool → Turn
 turn_at None call listed = torn_where listed
-turn_at (Some first) call listed = if nat_lt first call then Off else torn_where ((first == call) || listed)
+turn_at (Some first) call listed = if nat_lt first call then Off else torn_where
+    ((first == call) || listed)
 
 -- what the next call does, if it is no restart
 abbrev pub turn_of : Schedule → Turn
@@ -81,7 +82,11 @@ has_stopped (Some first) call = nat_le first call
 
 -- a restart ended a stop that had begun
 abbrev pub restarted : Schedule → Schedule
-restarted s = record { calls = s.calls; fails = s.fails; stop = if has_stopped s.stop s.calls then None else s.stop }
+restarted s = record {
+  calls = s.calls;
+  fails = s.fails;
+  stop = if has_stopped s.stop s.calls then None else s.stop;
+}
 
 -- ---- what a call leaves
 
@@ -95,7 +100,11 @@ refused m = record m { faults = one_more m.faults; schedule = counted m.schedule
 
 -- it failed for want of memory and did nothing
 abbrev pub starved : Memory → Memory
-starved m = record m { faults = one_more m.faults; starved = one_more m.starved; schedule = counted m.schedule }
+starved m = record m {
+  faults = one_more m.faults;
+  starved = one_more m.starved;
+  schedule = counted m.schedule;
+}
 
 -- it worked, and the disk is as at this moment
 abbrev pub worked : DiskMoment → Memory → Memory
@@ -103,11 +112,18 @@ worked d m = record m { moments = m.moments ++ d ∷ []; schedule = counted m.sc
 
 -- it failed in the middle, and the disk is as at this moment
 abbrev pub torn : DiskMoment → Memory → Memory
-torn d m = record m { moments = m.moments ++ d ∷ []; faults = one_more m.faults; schedule = counted m.schedule }
+torn d m = record m {
+  moments = m.moments ++ d ∷ [];
+  faults = one_more m.faults;
+  schedule = counted m.schedule;
+}
 
 -- it worked as a restart, and the disk has these bytes, all settled
 abbrev pub woken : List ℕ → Memory → Memory
-woken bytes m = record m { moments = m.moments ++ settled bytes ∷ []; schedule = restarted (counted m.schedule) }
+woken bytes m = record m {
+  moments = m.moments ++ settled bytes ∷ [];
+  schedule = restarted (counted m.schedule);
+}
 
 -- A call that changes nothing works in its turn, and else is refused.
 abbrev pub Answers : {T E : Type 0} → Turn → Memory → Memory → Result T E → Type 0
@@ -116,22 +132,26 @@ Answers turn old new (Err fault) = (turn ≢ Works) × (new ≡ refused old)
 
 -- A write or a cut does all of its work in its turn, and a part of it where it is torn; or it wants
 -- memory and does nothing. After a stop it does nothing.
-abbrev pub Changes : {E : Type 0} → Turn → (all part : DiskMoment) → Memory → Memory → Result (Unit {0}) E → Type 0
+abbrev pub Changes : {E : Type 0} → Turn → (all part : DiskMoment) → Memory → Memory
+    → Result (Unit {0}) E → Type 0
 Changes turn all part old new (Ok done) = (turn ≡ Works) × (new ≡ worked all old)
 Changes turn all part old new (Err fault) =
-    ((turn ≡ Off) × (new ≡ refused old)) ⊎ ((turn ≡ Torn) × (new ≡ torn part old)) ⊎ ((turn ≢ Off) × (new ≡ starved old))
+    ((turn ≡ Off) × (new ≡ refused old)) ⊎ ((turn ≡ Torn) × (new ≡ torn part old))
+    ⊎ ((turn ≢ Off) × (new ≡ starved old))
 
 -- A sync settles all in its turn, or wants memory and does nothing; else it is refused.
 abbrev pub Settles : {E : Type 0} → Turn → Memory → Memory → Result (Unit {0}) E → Type 0
 Settles turn old new (Ok done) = (turn ≡ Works) × (new ≡ worked (settled (now old).content) old)
-Settles turn old new (Err fault) = ((turn ≢ Works) × (new ≡ refused old)) ⊎ ((turn ≡ Works) × (new ≡ starved old))
+Settles turn old new (Err fault) = ((turn ≢ Works) × (new ≡ refused old))
+    ⊎ ((turn ≡ Works) × (new ≡ starved old))
 
 -- A restart leaves what the pick says in its turn, or wants memory and does nothing; else it is
 -- refused.
 abbrev pub Wakes : {E : Type 0} → Turn → Memory → Memory → Result (Unit {0}) E → Type 0
 Wakes turn old new (Ok done) =
     (turn ≡ Works) × ((bytes : List ℕ) × Picked old.pick (now old) bytes × (new ≡ woken bytes old))
-Wakes turn old new (Err fault) = ((turn ≢ Works) × (new ≡ refused old)) ⊎ ((turn ≡ Works) × (new ≡ starved old))
+Wakes turn old new (Err fault) = ((turn ≢ Works) × (new ≡ refused old))
+    ⊎ ((turn ≡ Works) × (new ≡ starved old))
 
 -- half of the way from a size to another
 abbrev pub halfway : ℕ → ℕ → ℕ

@@ -27,4 +27,5 @@ is_unsettled ranges low i = is_touched ranges i || nat_le low i
 pub record Picked (pick : Pick) (d : DiskMoment) (image : List ℕ) : Type 0 where
   pub size : length image ≡ picked_size pick (length d.stable) (length d.content)
   pub bytes : (i : ℕ) → i < length image
-      → slice_index image i ≡ (if is_unsettled d.touched d.low i then chosen pick i (slice_index d.stable i) (slice_index d.content i) else slice_index d.stable i)
+      → slice_index image i ≡ (if is_unsettled d.touched d.low i then chosen pick i
+      (slice_index d.stable i) (slice_index d.content i) else slice_index d.stable i)

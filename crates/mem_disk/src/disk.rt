@@ -46,7 +46,13 @@ impl Model for MemDisk {
 
     ghost Value = { Memory };
 
-    ghost view = { λ d. record { moments = d.platter; faults = d.faults; starved = d.starved; schedule = d.plan; pick = d.pick } };
+    ghost view = { λ d. record {
+      moments = d.platter;
+      faults = d.faults;
+      starved = d.starved;
+      schedule = d.plan;
+      pick = d.pick;
+    } };
 
     ghost invariant = { λ d. IsSound (last d.platter) };
 }
@@ -104,7 +110,10 @@ impl MemDisk {
     }
 
     fn starve(&mut self) -> DiskFault
-        ensures counts { self.new ≡ record self.old { faults = one_more self.old.faults; starved = one_more self.old.starved } }
+        ensures counts { self.new ≡ record self.old {
+          faults = one_more self.old.faults;
+          starved = one_more self.old.starved;
+        } }
         ensures later { self.old.faults ≤ self.new.faults }
         ensures rose { Rose self.old.faults self.new.faults }
     {
@@ -118,8 +127,10 @@ impl MemDisk {
         ensures sound { IsSound (now self.new) }
         ensures cause { HasCause self.old.faults self.new.faults result }
         ensures changes { Changes (turn_of self.old.schedule)
-            (touch off (length bytes.now) (written off bytes.now (now self.old).content) (now self.old))
-            (touch off (length bytes.now) (written off (take (length bytes.now / 2) bytes.now) (now self.old).content) (now self.old))
+            (touch off (length bytes.now) (written off bytes.now (now self.old).content)
+            (now self.old))
+            (touch off (length bytes.now) (written off (take (length bytes.now / 2) bytes.now)
+            (now self.old).content) (now self.old))
             self.old self.new result }
     {
         match self.plan.turn() {
@@ -141,7 +152,8 @@ impl MemDisk {
         ensures cause { HasCause self.old.faults self.new.faults result }
         ensures changes { Changes (turn_of self.old.schedule)
             (trim size (resized size (now self.old).content) (now self.old))
-            (trim size (resized (mem.halfway (length (now self.old).content) size) (now self.old).content) (now self.old))
+            (trim size (resized (mem.halfway (length (now self.old).content) size)
+            (now self.old).content) (now self.old))
             self.old self.new result }
     {
         let size = size as usize;
@@ -220,12 +232,15 @@ impl Disk for MemDisk {
     fn write_at(&mut self, off: u64, bytes: &[u8]) -> Result<(), DiskFault>
         requires { off + length bytes.now ≤ 2 ^ 41 }
         ensures step { Goes (Writes off (length bytes.now)) (told self.old) (told self.new) }
-        ensures done { OnOk result (Then (told self.old) (told self.new) (λ d e. e.content ≡ written off bytes.now d.content)) }
+        ensures done { OnOk result (Then (told self.old) (told self.new)
+            (λ d e. e.content ≡ written off bytes.now d.content)) }
         ensures image { Now (told self.new) (λ d. IsImage d d.content) }
         ensures cause { HasCause self.old.faults self.new.faults result }
         ensures changes { Changes (turn_of self.old.schedule)
-            (touch off (length bytes.now) (written off bytes.now (now self.old).content) (now self.old))
-            (touch off (length bytes.now) (written off (take (length bytes.now / 2) bytes.now) (now self.old).content) (now self.old))
+            (touch off (length bytes.now) (written off bytes.now (now self.old).content)
+            (now self.old))
+            (touch off (length bytes.now) (written off (take (length bytes.now / 2) bytes.now)
+            (now self.old).content) (now self.old))
             self.old self.new result }
     {
         self.write(off, bytes)
@@ -234,12 +249,14 @@ impl Disk for MemDisk {
     fn cut(&mut self, size: u64) -> Result<(), DiskFault>
         requires { size ≤ 2 ^ 41 }
         ensures step { Goes (Cuts size) (told self.old) (told self.new) }
-        ensures done { OnOk result (Then (told self.old) (told self.new) (λ d e. e.content ≡ resized size d.content)) }
+        ensures done { OnOk result (Then (told self.old) (told self.new)
+            (λ d e. e.content ≡ resized size d.content)) }
         ensures image { Now (told self.new) (λ d. IsImage d d.content) }
         ensures cause { HasCause self.old.faults self.new.faults result }
         ensures changes { Changes (turn_of self.old.schedule)
             (trim size (resized size (now self.old).content) (now self.old))
-            (trim size (resized (mem.halfway (length (now self.old).content) size) (now self.old).content) (now self.old))
+            (trim size (resized (mem.halfway (length (now self.old).content) size)
+            (now self.old).content) (now self.old))
             self.old self.new result }
     {
         self.resize(size)

@@ -25,14 +25,24 @@ impl Model for FogDisk {
 
     ghost Value = { Fog };
 
-    ghost view = { λ d. record { inner = d.inner; calls = d.calls; swap_at = d.swap_at; with_bytes = d.with.items } };
+    ghost view = { λ d. record {
+      inner = d.inner;
+      calls = d.calls;
+      swap_at = d.swap_at;
+      with_bytes = d.with.items;
+    } };
 }
 
 impl FogDisk {
     /// A disk that reads as `inner` does, and from its call `swap_at` on as `with`. It takes no
     /// memory.
     pub fn new(inner: MemDisk, swap_at: Option<u64>, with: Vec<u8>) -> FogDisk
-        ensures { result ≡ record { inner = inner; calls = 0; swap_at = swap_at; with_bytes = with.items } }
+        ensures { result ≡ record {
+          inner = inner;
+          calls = 0;
+          swap_at = swap_at;
+          with_bytes = with.items;
+        } }
     {
         FogDisk {
             inner,

@@ -88,7 +88,8 @@ impl Platter {
         requires room { off + length bytes.now ≤ 2 ^ 41 }
         requires part { done ≤ length bytes.now }
         requires sound { IsSound (last self.old) }
-        ensures ok { OnOk result (self.new ≡ self.old ++ touch off (length bytes.now) (written off (take done bytes.now) (last self.old).content) (last self.old) ∷ []) }
+        ensures ok { OnOk result (self.new ≡ self.old ++ touch off (length bytes.now) (written off
+            (take done bytes.now) (last self.old).content) (last self.old) ∷ []) }
         ensures err { OnErr result (self.new ≡ self.old) }
         ensures sound { IsSound (last self.new) }
     {
@@ -104,7 +105,8 @@ impl Platter {
         requires least { min (length (last self.old).content) size ≤ part }
         requires most { part ≤ max (length (last self.old).content) size }
         requires sound { IsSound (last self.old) }
-        ensures ok { OnOk result (self.new ≡ self.old ++ trim size (resized part (last self.old).content) (last self.old) ∷ []) }
+        ensures ok { OnOk result (self.new ≡ self.old ++ trim size (resized part (last self.old).content)
+            (last self.old) ∷ []) }
         ensures err { OnErr result (self.new ≡ self.old) }
         ensures sound { IsSound (last self.new) }
     {
@@ -132,7 +134,8 @@ impl Platter {
     /// Settles what a stop leaves by a pick; without memory nothing changes.
     pub fn restart(&mut self, pick: Pick) -> Result<(), AllocError>
         requires sound { IsSound (last self.old) }
-        ensures ok { OnOk result ((bytes : List ℕ) × Picked pick (last self.old) bytes × (self.new ≡ self.old ++ settled bytes ∷ [])) }
+        ensures ok { OnOk result ((bytes : List ℕ) × Picked pick (last self.old) bytes
+            × (self.new ≡ self.old ++ settled bytes ∷ [])) }
         ensures err { OnErr result (self.new ≡ self.old) }
         ensures sound { IsSound (last self.new) }
     {

@@ -78,7 +78,8 @@ fn overwrite(content: &mut Vec<u8>, off: usize, bytes: &[u8]) -> Result<(), Allo
 pub fn write(state: &mut State, off: usize, bytes: &[u8], done: usize) -> Result<(), AllocError>
     requires room { off + length bytes.now ≤ 2 ^ 41 }
     requires part { done ≤ length bytes.now }
-    ensures ok { OnOk result (moment_of state.new ≡ touch off (length bytes.now) (written off (take done bytes.now) state.old.content.items) (moment_of state.old)) }
+    ensures ok { OnOk result (moment_of state.new ≡ touch off (length bytes.now)
+        (written off (take done bytes.now) state.old.content.items) (moment_of state.old)) }
     ensures err { OnErr result (moment_of state.new ≡ moment_of state.old) }
 {
     state.touched.reserve(1)?;
@@ -90,7 +91,8 @@ pub fn write(state: &mut State, off: usize, bytes: &[u8], done: usize) -> Result
 
 /// A cut that goes as far as `part`; without memory nothing changes.
 pub fn cut(state: &mut State, size: usize, part: usize) -> Result<(), AllocError>
-    ensures ok { OnOk result (moment_of state.new ≡ trim size (resized part state.old.content.items) (moment_of state.old)) }
+    ensures ok { OnOk result (moment_of state.new ≡ trim size (resized part state.old.content.items)
+        (moment_of state.old)) }
     ensures err { OnErr result (moment_of state.new ≡ moment_of state.old) }
 {
     state.content.resize(part, 0)?;
@@ -160,7 +162,8 @@ pub fn settle(state: &mut State) -> Result<(), AllocError>
 pub fn restart(state: &mut State, pick: Pick) -> Result<(), AllocError>
     requires content { IsImage (moment_of state.old) state.old.content.items }
     requires stable { IsImage (moment_of state.old) state.old.stable.items }
-    ensures ok { OnOk result (Picked pick (moment_of state.old) state.new.content.items × (moment_of state.new ≡ settled state.new.content.items)) }
+    ensures ok { OnOk result (Picked pick (moment_of state.old) state.new.content.items
+        × (moment_of state.new ≡ settled state.new.content.items)) }
     ensures err { OnErr result (moment_of state.new ≡ moment_of state.old) }
 {
     let size = size_of(pick, state.stable.len(), state.content.len());

@@ -14,7 +14,8 @@ const PRIME: u64 = 0x0000_0100_0000_01b3;
 
 /// The FNV-1a hash of 64 bits of `bytes`, of any length.
 ///
-/// Starting from the offset basis, each byte in turn is combined by exclusive or, and the result is multiplied by the
+/// Starting from the offset basis, each byte in turn is combined by exclusive or, and the result is
+/// multiplied by the
 /// prime modulo 2^64. Names that an enemy chooses can be made to collide.
 pub fn fnv1a(bytes: &[u8]) -> u64
     ensures { result ≡ hash_of bytes.now }
@@ -25,7 +26,8 @@ pub fn fnv1a(bytes: &[u8]) -> u64
     )
 }
 
-/// The number of the group, from 0, in which `name` lives where there are `groups` groups: its hash modulo `groups`.
+/// The number of the group, from 0, in which `name` lives where there are `groups` groups: its hash
+/// modulo `groups`.
 pub fn group_of(name: &[u8], groups: u32) -> u32
     requires least { 1 ≤ groups }
     requires most { groups ≤ 16 }

@@ -1,4 +1,5 @@
--- What is said of a sub-operation by itself: what it is there for, its numbers, and what it carries.
+-- What is said of a sub-operation by itself: what it is there for, its numbers, and what it
+-- carries.
 use Rattle.std.specs.Prelude.{ℕ, ◌+◌, Bool, true, false, List, [], ◌∷◌, length, Some, nat_lt}
 use Rattle.std.specs.List.{list_any}
 use Rattle.obj_model.specs.Limits.{number_limit}

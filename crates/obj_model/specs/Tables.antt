@@ -14,5 +14,6 @@ is_above None name = true
 is_above (Some after) name = is_lt (name_cmp after name)
 
 -- the entries with names above this one, in the order of their names
-abbrev pub entries_above : {X : Type 0} → Option (List ℕ) → map.FinMap name_cmp X → List (List ℕ × X)
+abbrev pub entries_above : {X : Type 0} → Option (List ℕ) → map.FinMap name_cmp X
+    → List (List ℕ × X)
 entries_above after t = filter (λ e. is_above after e.0) (map.entries t)

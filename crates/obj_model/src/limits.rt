@@ -12,5 +12,6 @@ pub const OMAP_LIMIT: u64 = 1_024;
 /// The longest value of an attribute or an entry, in bytes.
 pub const VALUE_LIMIT: u64 = 4_096;
 
-/// The greatest number that a sub-operation may carry, and the greatest tid and count of a name: 2^62.
+/// The greatest number that a sub-operation may carry, and the greatest tid and count of a name:
+/// 2^62.
 pub const NUMBER_LIMIT: u64 = 1 << 62;

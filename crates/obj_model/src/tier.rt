@@ -1,4 +1,5 @@
-//! Words of the tier that several crates share: modes, pool values, paths, kinds of unfinished work.
+//! Words of the tier that several crates share: modes, pool values, paths, kinds of unfinished
+//! work.
 
 /// How the tier treats names that are not in the cache, after the Ceph manual's cache modes.
 #[derive(Clone, Copy, Debug, PartialEq, Eq)]

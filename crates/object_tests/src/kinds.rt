@@ -1,4 +1,5 @@
-//! Each kind on an absent object and on one with the body 01234567, the attribute k of v1, and the entries a to c of 1 to 3.
+//! Each kind on an absent object and on one with the body 01234567, the attribute k of v1, and the
+//! entries a to c of 1 to 3.
 use crate::tools::{row, show_obj, show_out, show_why, state_with, vector};
 use obj_model::{NameState, Obj};
 use obj_ops::{Looked, Ran, look, run_vector};

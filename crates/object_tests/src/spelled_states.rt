@@ -10,7 +10,8 @@ use std::test::Fail;
 const FIRST: &str = "0000000000000001 0000000000000001 01 00000003 616263 0000 0000
     0001 0001 0000000000000001 01 0000000000000001";
 
-// No object, seq 2, and two refused requests: of client 1 with tid 5, noent at 0; of client 256 with
+// No object, seq 2, and two refused requests: of client 1 with tid 5, noent at 0; of client 256
+// with
 // tid 2^62, toobig 1048576 1048577 at 15.
 const REFUSED: &str = "0000000000000000 0000000000000002 00
     0002 0001 0000000000000005 02 00 02 0000000000000000
@@ -74,7 +75,8 @@ fn refused_requests(rt: HostRuntime) -> Result<(), Fail> {
 }
 
 // With 00, 01 and ff at each place of the first state, eight places a row: y where that spells a
-// state, n where not. `ver` is above `seq` but for 0 and 1; `seq` is below `ver` where its last byte
+// state, n where not. `ver` is above `seq` but for 0 and 1; `seq` is below `ver` where its last
+// byte
 // is 0, and above 2^62 where its first is ff; the tag 0 leaves bytes over, and ff means nothing; of
 // the body's lengths 0 and 1 make two bytes of "abc" the number of attributes, and all others are
 // more than what is left; there are too many attributes or entries, or the first has a key of no
@@ -215,7 +217,8 @@ fn put_requests(alloc: Global, bytes: &mut Vec<u8>, count: u16) -> Result<(), Fa
     Ok(())
 }
 
-// Bytes of the body, attributes, entries, bytes of each value, clients, and whether that is a state.
+// Bytes of the body, attributes, entries, bytes of each value, clients, and whether that is a
+// state.
 const SIZES: &str = "1048576 64 1024 4096 256 y
 1048577 1 1 1 1 n
 1 65 1 1 1 n

@@ -18,5 +18,6 @@ at_rest t = record { table = t; ready = [] }
 -- how a map is written down as a value of contracts
 abbrev pub coded_pool : Coded PoolView
 coded_pool =
-    code_by (Table × List Change) (coded× (fin.code (coded_list coded_ℕ) (coded_list coded_ℕ)) (coded_list change.the_row.coded))
+    code_by (Table × List Change) (coded× (fin.code (coded_list coded_ℕ) (coded_list coded_ℕ))
+    (coded_list change.the_row.coded))
     (λ p. (p.table, p.ready)) (λ c. record { table = c.0; ready = c.1 }) (λ _. refl)

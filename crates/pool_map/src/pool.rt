@@ -14,7 +14,8 @@ use std::alloc::Global;
 use std::marker::Model;
 use std::mem;
 
-/// A map from keys to values, both of them bytes, and the changes of it that are prepared: all memory that they need is taken.
+/// A map from keys to values, both of them bytes, and the changes of it that are prepared: all
+/// memory that they need is taken.
 #[derive(Debug, Drop)]
 pub struct PoolMap {
     alloc: Global,
@@ -34,7 +35,8 @@ impl Model for PoolMap {
 
     ghost view = { λ p. record { table = filled p.slots; ready = p.ready.items } };
 
-    ghost invariant = { λ p. AreApart p.ready.items × All (HasRoom p.slots) p.ready.items × IsTidy p.slots p.ready.items };
+    ghost invariant = { λ p. AreApart p.ready.items × All (HasRoom p.slots) p.ready.items
+        × IsTidy p.slots p.ready.items };
 }
 
 impl PoolMap {
@@ -56,15 +58,18 @@ impl PoolMap {
         self.slots.get(key)
     }
 
-    /// The keys above this one (without one: all), in the order of their bytes, at most `max` of them. The time is that of finding the
+    /// The keys above this one (without one: all), in the order of their bytes, at most `max` of
+    /// them. The time is that of finding the
     /// first, and for each key that is answered and each that is prepared but not yet there.
     pub fn keys_after(&self, after: Option<&[u8]>, max: u32) -> Result<Items<Bytes>, NoMemory>
-        ensures { IfOk result (λ keys. keys ≡ take max (keys_above (option_copied after.entry) self.now.table)) }
+        ensures { IfOk result (λ keys. keys ≡ take max
+            (keys_above (option_copied after.entry) self.now.table)) }
     {
         Ok(Items::from_vec(self.slots.keys_after(self.alloc, after, max)?))
     }
 
-    /// Takes all memory that these changes need, in place of those that were prepared before. The map stays. After `NoMemory` no change is
+    /// Takes all memory that these changes need, in place of those that were prepared before. The
+    /// map stays. After `NoMemory` no change is
     /// prepared.
     pub fn prepare(&mut self, changes: Vec<Change>) -> Result<(), NoMemory>
         requires { AreApart changes.items }
@@ -89,7 +94,8 @@ impl PoolMap {
         change_all(&mut self.slots, changes);
     }
 
-    /// Lets go of the changes that are prepared, and of the memory that was taken for them. The map stays.
+    /// Lets go of the changes that are prepared, and of the memory that was taken for them. The map
+    /// stays.
     pub fn forget(&mut self)
         ensures { self.new ≡ at_rest self.old.table }
     {

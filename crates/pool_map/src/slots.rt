@@ -78,14 +78,16 @@ impl Slots {
         }
     }
 
-    /// The keys with a value that are above this one (without one: all), in the order of their bytes, at most `max` of them.
+    /// The keys with a value that are above this one (without one: all), in the order of their
+    /// bytes, at most `max` of them.
     pub fn keys_after(
         &self,
         alloc: Global,
         after: Option<&[u8]>,
         max: u32,
     ) -> Result<Vec<Bytes>, NoMemory>
-        ensures { IfOk result (λ keys. keys.items ≡ take max (keys_above (option_copied after.entry) (filled self.now))) }
+        ensures { IfOk result (λ keys. keys.items ≡ take max
+            (keys_above (option_copied after.entry) (filled self.now))) }
     {
         match after {
             Some(bound) => {
@@ -106,7 +108,8 @@ impl Slots {
         ensures kept { filled self.new ≡ filled self.old }
         ensures made { OnOk result (IsSome (fin.get self.new key.now)) }
         ensures stays { (other : Change) → HasRoom self.old other → HasRoom self.new other }
-        ensures tidy { (changes : List Change) → puts key.now changes ≡ true → IsTidy self.old changes → IsTidy self.new changes }
+        ensures tidy { (changes : List Change) → puts key.now changes ≡ true → IsTidy self.old changes
+            → IsTidy self.new changes }
     {
         if self.slot(key.as_slice()).is_some() {
             return Ok(());
@@ -120,7 +123,8 @@ impl Slots {
         ensures kept { filled self.new ≡ filled self.old }
         ensures made { OnOk result (HasRoom self.new change.now) }
         ensures stays { (other : Change) → HasRoom self.old other → HasRoom self.new other }
-        ensures tidy { (changes : List Change) → IsCovered changes change.now → IsTidy self.old changes → IsTidy self.new changes }
+        ensures tidy { (changes : List Change) → IsCovered changes change.now → IsTidy self.old changes
+            → IsTidy self.new changes }
     {
         match change {
             Change::Put { key, .. } => self.make_slot(key),
@@ -128,7 +132,8 @@ impl Slots {
         }
     }
 
-    /// Sees to it that each of these changes finds room, or says that there is not the memory for it. The map that the slots hold
+    /// Sees to it that each of these changes finds room, or says that there is not the memory for
+    /// it. The map that the slots hold
     /// stays. If no slot was empty, then each that is now is room for one of the changes.
     pub fn make_rooms(&mut self, changes: &[Change]) -> Result<(), NoMemory>
         ensures kept { filled self.new ≡ filled self.old }
@@ -151,7 +156,8 @@ impl Slots {
     // Takes a key's slot out, if it is empty. The map that the slots hold stays.
     fn take_slot(&mut self, key: &[u8])
         ensures kept { filled self.new ≡ filled self.old }
-        ensures tidy { (value : List ℕ) (changes : List Change) → IsTidy self.old (Put key.now value ∷ changes) → IsTidy self.new changes }
+        ensures tidy { (value : List ℕ) (changes : List Change) → IsTidy self.old (Put key.now value ∷ changes)
+            → IsTidy self.new changes }
     {
         if self.is_room(key) {
             self.take(key);
@@ -161,7 +167,8 @@ impl Slots {
     // Takes a change's slot out, if it is empty. The map that the slots hold stays.
     fn take_room(&mut self, change: &Change)
         ensures kept { filled self.new ≡ filled self.old }
-        ensures tidy { (changes : List Change) → IsTidy self.old (change.now ∷ changes) → IsTidy self.new changes }
+        ensures tidy { (changes : List Change) → IsTidy self.old (change.now ∷ changes)
+            → IsTidy self.new changes }
     {
         match change {
             Change::Put { key, .. } => self.take_slot(key.as_slice()),
@@ -200,7 +207,8 @@ fn first_keys(
     slots: Range<'_, Vec<u8>, Option<Bytes>>,
     max: u32,
 ) -> Result<Vec<Bytes>, NoMemory>
-    ensures { IfOk result (λ keys. keys.items ≡ take max (map (λ e. e.0) (with_values (rows (λ k. k.items) slots.entry)))) }
+    ensures { IfOk result (λ keys. keys.items ≡ take max
+        (map (λ e. e.0) (with_values (rows (λ k. k.items) slots.entry)))) }
 {
     let mut keys = Vec::new(alloc);
     for (key, slot) in slots {

@@ -1,4 +1,5 @@
-//! A stop and a single fault at each call of the disk under each message that commits: the base then
+//! A stop and a single fault at each call of the disk under each message that commits: the base
+//! then
 //! has what it had before, or what the message makes of it; and what was told is there.
 use crate::tools::{disk, numbers, open, serve};
 use mem_disk::Pick;

@@ -56,16 +56,19 @@ abbrev pub as_at : {A B : Type 0} → Reader A → (A → B) → Reader B
 as_at first made bytes = first bytes >>= λ a. Some (made a.0, a.1)
 
 -- so many values, the key of each above the one before
-unfoldable pub each_at : {A K : Type 0} → Reader A → (A → K) → (K → K → Bool) → K → ℕ → Reader (List A)
+unfoldable pub each_at : {A K : Type 0} → Reader A → (A → K) → (K → K → Bool) → K → ℕ
+    → Reader (List A)
 each_at item key above last zero bytes = Some ([], bytes)
 each_at item key above last (suc n) bytes = item bytes >>= (λ a.
-    if above last (key a.0) then (each_at item key above (key a.0) n a.1 >>= (λ others. Some (a.0 ∷ others.0, others.1))) else None)
+    if above last (key a.0) then (each_at item key above (key a.0) n a.1 >>=
+    (λ others. Some (a.0 ∷ others.0, others.1))) else None)
 
 -- ---- the blocks
 
 -- a number of so many bytes
 abbrev pub number_at : ℕ → Reader ℕ
-number_at n bytes = if nat_lt (length bytes) n then None else Some (big_number n bytes, drop n bytes)
+number_at n bytes = if nat_lt (length bytes) n then None else Some
+    (big_number n bytes, drop n bytes)
 
 -- so many bytes
 abbrev pub taken_at : ℕ → Reader (List ℕ)
@@ -87,7 +90,8 @@ name_at = if_at short_at (λ bytes. not (is_some (name_fault bytes)))
 unfoldable pub plain_why : ℕ → Option Why
 plain_why tag =
     if tag == 1 then Some Exists else if tag == 2 then Some NoEnt else if tag == 3 then Some NoData
-    else if tag == 4 then Some Canceled else if tag == 5 then Some Range else if tag == 6 then Some Overflow else None
+    else if tag == 4 then Some Canceled else if tag == 5 then Some Range else if tag == 6 then Some
+    Overflow else None
 
 -- what stands behind the tag of a reason
 abbrev pub why_behind : ℕ → Reader Why
@@ -101,7 +105,8 @@ why_at = behind_at (number_at 1) why_behind
 
 -- the place, the reason and the version of a refusal
 abbrev pub refused_at : Reader Reply
-refused_at = as_at (then_at (if_at (number_at 1) (λ at. nat_lt at 16)) (λ _. then_at why_at (λ _. number_at 8))) (λ r. Refused r.0 r.1.0 r.1.1)
+refused_at = as_at (then_at (if_at (number_at 1) (λ at. nat_lt at 16))
+    (λ _. then_at why_at (λ _. number_at 8))) (λ r. Refused r.0 r.1.0 r.1.1)
 
 -- what stands behind the tag of a reply
 abbrev pub reply_behind : ℕ → Reader Reply
@@ -114,7 +119,13 @@ reply_at = behind_at (number_at 1) reply_behind
 
 -- a kept request
 unfoldable pub kept_at : Reader Kept
-kept_at = as_at (then_at (if_at (number_at 2) (λ client. nat_le 1 client && nat_le client 256)) (λ _. then_at (if_at (number_at 8) (λ tid. nat_le tid (2 ^ 62))) (λ _. reply_at))) (λ k. record { client = k.0; tid = k.1.0; reply = k.1.1 })
+kept_at = as_at (then_at (if_at (number_at 2) (λ client. nat_le 1 client && nat_le client 256))
+    (λ _. then_at (if_at (number_at 8) (λ tid. nat_le tid (2 ^ 62))) (λ _. reply_at)))
+    (λ k. record {
+      client = k.0;
+      tid = k.1.0;
+      reply = k.1.1;
+    })
 
 -- an entry of a table
 unfoldable pub pair_at : Reader Entry
@@ -130,7 +141,8 @@ kepts_at = each_at kept_at (λ k. k.client) nat_lt
 
 -- a table of at most so many entries
 unfoldable pub table_at : ℕ → Reader (fin.FinMap name_cmp (List ℕ))
-table_at most = behind_at (if_at (number_at 2) (λ n. nat_le n most)) (λ n. as_at (pairs_at [] n) fin.from_entries)
+table_at most = behind_at (if_at (number_at 2) (λ n. nat_le n most))
+    (λ n. as_at (pairs_at [] n) fin.from_entries)
 
 -- the kept requests of a state
 unfoldable pub kept_list_at : Reader (List Kept)
@@ -140,11 +152,17 @@ kept_list_at = behind_at (number_at 2) (kepts_at 0)
 
 -- an object
 unfoldable pub object_at : Reader Obj
-object_at = as_at (then_at (string_at 1048576) (λ _. then_at (table_at 64) (λ _. table_at 1024))) (λ o. record { body = o.0; attrs = o.1.0; omap = o.1.1 })
+object_at = as_at (then_at (string_at 1048576) (λ _. then_at (table_at 64) (λ _. table_at 1024)))
+    (λ o. record {
+      body = o.0;
+      attrs = o.1.0;
+      omap = o.1.1;
+    })
 
 -- what stands behind the byte that says whether there is an object
 abbrev pub object_behind : ℕ → Reader (Option Obj)
-object_behind tag bytes = if tag == 0 then Some (None, bytes) else if tag == 1 then as_at object_at Some bytes else None
+object_behind tag bytes = if tag == 0 then Some (None, bytes) else if tag == 1 then as_at object_at
+    Some bytes else None
 
 -- an object, or that there is none
 unfoldable pub object_or_none_at : Reader (Option Obj)
@@ -152,7 +170,14 @@ object_or_none_at = behind_at (number_at 1) object_behind
 
 -- a state
 unfoldable pub state_at : Reader NameState
-state_at = as_at (then_at (number_at 8) (λ ver. then_at (if_at (number_at 8) (λ seq. nat_le ver seq && nat_le seq (2 ^ 62))) (λ _. then_at object_or_none_at (λ _. kept_list_at)))) (λ s. record { ver = s.0; seq = s.1.0; obj = s.1.1.0; seen = s.1.1.1 })
+state_at = as_at (then_at (number_at 8)
+    (λ ver. then_at (if_at (number_at 8) (λ seq. nat_le ver seq && nat_le seq (2 ^ 62)))
+    (λ _. then_at object_or_none_at (λ _. kept_list_at)))) (λ s. record {
+      ver = s.0;
+      seq = s.1.0;
+      obj = s.1.1.0;
+      seen = s.1.1.1;
+    })
 
 -- ---- records of the cache
 
@@ -196,7 +221,8 @@ are_apart (c ∷ cs) = not (is_among cs (key_of c)) && are_apart cs
 
 -- a transaction
 unfoldable pub txn_at : Reader (List Change)
-txn_at = behind_at (if_at (number_at 1) (λ n. nat_le 1 n && nat_le n 8)) (λ n. if_at (changes_at n) are_apart)
+txn_at = behind_at (if_at (number_at 1) (λ n. nat_le 1 n && nat_le n 8))
+    (λ n. if_at (changes_at n) are_apart)
 
 -- what all of the bytes are
 abbrev pub whole : {A : Type 0} → Reader A → List ℕ → Option A

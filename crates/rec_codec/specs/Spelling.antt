@@ -81,7 +81,8 @@ kept_list ks = big_bytes 2 (length ks) ++ flat_map kept ks
 
 -- the spelling of a state
 abbrev pub state_bytes : NameState → List ℕ
-state_bytes s = big_bytes 8 s.ver ++ (big_bytes 8 s.seq ++ (object_or_none s.obj ++ kept_list s.seen))
+state_bytes s = big_bytes 8 s.ver ++ (big_bytes 8 s.seq ++
+    (object_or_none s.obj ++ kept_list s.seen))
 
 -- ---- what has a spelling
 

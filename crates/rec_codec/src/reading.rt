@@ -1,6 +1,7 @@
 //! States as they are read.
 //!
-//! Bytes that are no whole state give nothing. No memory is taken that the bytes do not fill, and nothing is read twice.
+//! Bytes that are no whole state give nothing. No memory is taken that the bytes do not fill, and
+//! nothing is read twice.
 ghost use Rattle.std.specs.Prelude.{◌≡◌, [], Some, not, IfOk, IfSome, IfNone};
 ghost use Rattle.obj_model.specs.declared.state.NameState.{NameState};
 ghost use Rattle.std.specs.Ordering.{is_lt};
@@ -181,7 +182,8 @@ fn state_or_none(alloc: Global, bytes: &[u8]) -> Result<Option<NameState>, NoMem
     }
 }
 
-/// The state that the bytes, all of them, spell, or nothing where they spell none. It takes no more memory than a
+/// The state that the bytes, all of them, spell, or nothing where they spell none. It takes no more
+/// memory than a
 /// small multiple of the bytes, whatever they are, and an error is want of memory alone.
 pub fn read_state(alloc: Global, bytes: &[u8]) -> Result<Option<NameState>, NoMemory>
     // What is read is spelled so.

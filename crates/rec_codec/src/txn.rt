@@ -136,13 +136,16 @@ fn txn_or_none(alloc: Global, bytes: &[u8]) -> Result<Option<Vec<Change>>, NoMem
     }
 }
 
-/// The changes of the transaction that the bytes, all of them, spell, or nothing where they spell none. It takes no
-/// more memory than a small multiple of the bytes, whatever they are, and an error is want of memory alone.
+/// The changes of the transaction that the bytes, all of them, spell, or nothing where they spell
+/// none. It takes no
+/// more memory than a small multiple of the bytes, whatever they are, and an error is want of
+/// memory alone.
 pub fn read_txn(alloc: Global, bytes: &[u8]) -> Result<Option<Vec<Change>>, NoMemory>
     // What is read is spelled so.
     ensures found { IfOk result (λ o. IfSome o (λ v. SpellsTxn bytes.now v.items)) }
     // What is spelled so is read.
-    ensures only { (cs : List Change) → SpellsTxn bytes.now cs → IfOk result (λ o. option_map (λ v. v.items) o ≡ Some cs) }
+    ensures only { (cs : List Change) → SpellsTxn bytes.now cs
+        → IfOk result (λ o. option_map (λ v. v.items) o ≡ Some cs) }
     // Nothing is read only where nothing is spelled.
     ensures none { IfOk result (λ o. IfNone o ((cs : List Change) → SpellsTxn bytes.now cs → ⊥)) }
 {
@@ -187,7 +190,8 @@ fn put_txn(out: &mut Vec<u8>, changes: &[Change]) -> Result<(), AllocError>
     Ok(())
 }
 
-/// The one spelling of a transaction of 1 to 8 changes that are within their limits and of distinct keys.
+/// The one spelling of a transaction of 1 to 8 changes that are within their limits and of distinct
+/// keys.
 pub fn write_txn(alloc: Global, changes: &[Change]) -> Result<Vec<u8>, NoMemory>
     requires { IsTxn changes.now }
     ensures { IfOk result (λ bytes. SpellsTxn bytes.items changes.now) }

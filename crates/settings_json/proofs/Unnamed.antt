@@ -13,7 +13,7 @@ use Rattle.settings_json.specs.Settings.{Wrong, NotJson, defaults, json_of, put_
 row : {A X : Type 0} (g : PoolValues → X) (b : Bool) (key : List ℕ) (puts : A → PoolValues)
     (o : Option A) (rest : Result PoolValues Wrong) (v u : PoolValues)
     → (if b then put_in key puts o else rest) ≡ Ok u → (b ≡ true → (a : A) → g (puts a) ≡ g v) →
-        (rest ≡ Ok u → g u ≡ g v) → g u ≡ g v
+    (rest ≡ Ok u → g u ≡ g v) → g u ≡ g v
 row g true key puts None rest v u e own behind = absurd (cc)
 row g true key puts (Some a) rest v u e own behind = let same : puts a ≡ u = cc in ap g (sym same)
     ∙ own refl a
@@ -30,39 +30,39 @@ module _ {X : Type 0} (g : PoolValues → X) (k : List ℕ) (d : Data) (v u : Po
       → Stays (codes "target_max_bytes") (λ (x : ℕ). record v { target_max_bytes = x })
       → Stays (codes "target_max_objects") (λ (x : ℕ). record v { target_max_objects = x })
       → Stays (codes "cache_target_dirty_ratio")
-          (λ (x : ℕ). record v { cache_target_dirty_ratio = x })
+      (λ (x : ℕ). record v { cache_target_dirty_ratio = x })
       → Stays (codes "cache_target_dirty_high_ratio")
-          (λ (x : ℕ). record v { cache_target_dirty_high_ratio = x })
+      (λ (x : ℕ). record v { cache_target_dirty_high_ratio = x })
       → Stays (codes "cache_target_full_ratio")
-          (λ (x : ℕ). record v { cache_target_full_ratio = x })
+      (λ (x : ℕ). record v { cache_target_full_ratio = x })
       → Stays (codes "cache_min_flush_age") (λ (x : ℕ). record v { cache_min_flush_age = x })
       → Stays (codes "cache_min_evict_age") (λ (x : ℕ). record v { cache_min_evict_age = x })
       → Stays (codes "min_read_recency_for_promote")
-          (λ (x : ℕ). record v { min_read_recency_for_promote = x })
+      (λ (x : ℕ). record v { min_read_recency_for_promote = x })
       → Stays (codes "min_write_recency_for_promote")
-          (λ (x : ℕ). record v { min_write_recency_for_promote = x })
+      (λ (x : ℕ). record v { min_write_recency_for_promote = x })
       → g u ≡ g v
   cache_rows e r0 r1 r2 r3 r4 r5 r6 r7 r8 r9 =
       row g (bytes_eq k (codes "cache_mode")) k (λ (x : Mode). record v { cache_mode = x }) _ _ v u
-          e r0 (λ e1.
+      e r0 (λ e1.
       row g (bytes_eq k (codes "target_max_bytes")) k (λ (x : ℕ). record v { target_max_bytes = x })
-          _ _ v u e1 r1 (λ e2.
+      _ _ v u e1 r1 (λ e2.
       row g (bytes_eq k (codes "target_max_objects")) k
-          (λ (x : ℕ). record v { target_max_objects = x }) _ _ v u e2 r2 (λ e3.
+      (λ (x : ℕ). record v { target_max_objects = x }) _ _ v u e2 r2 (λ e3.
       row g (bytes_eq k (codes "cache_target_dirty_ratio")) k
-          (λ (x : ℕ). record v { cache_target_dirty_ratio = x }) _ _ v u e3 r3 (λ e4.
+      (λ (x : ℕ). record v { cache_target_dirty_ratio = x }) _ _ v u e3 r3 (λ e4.
       row g (bytes_eq k (codes "cache_target_dirty_high_ratio")) k
-          (λ (x : ℕ). record v { cache_target_dirty_high_ratio = x }) _ _ v u e4 r4 (λ e5.
+      (λ (x : ℕ). record v { cache_target_dirty_high_ratio = x }) _ _ v u e4 r4 (λ e5.
       row g (bytes_eq k (codes "cache_target_full_ratio")) k
-          (λ (x : ℕ). record v { cache_target_full_ratio = x }) _ _ v u e5 r5 (λ e6.
+      (λ (x : ℕ). record v { cache_target_full_ratio = x }) _ _ v u e5 r5 (λ e6.
       row g (bytes_eq k (codes "cache_min_flush_age")) k
-          (λ (x : ℕ). record v { cache_min_flush_age = x }) _ _ v u e6 r6 (λ e7.
+      (λ (x : ℕ). record v { cache_min_flush_age = x }) _ _ v u e6 r6 (λ e7.
       row g (bytes_eq k (codes "cache_min_evict_age")) k
-          (λ (x : ℕ). record v { cache_min_evict_age = x }) _ _ v u e7 r7 (λ e8.
+      (λ (x : ℕ). record v { cache_min_evict_age = x }) _ _ v u e7 r7 (λ e8.
       row g (bytes_eq k (codes "min_read_recency_for_promote")) k
-          (λ (x : ℕ). record v { min_read_recency_for_promote = x }) _ _ v u e8 r8 (λ e9.
+      (λ (x : ℕ). record v { min_read_recency_for_promote = x }) _ _ v u e8 r8 (λ e9.
       row g (bytes_eq k (codes "min_write_recency_for_promote")) k
-          (λ (x : ℕ). record v { min_write_recency_for_promote = x }) _ _ v u e9 r9 (λ e10.
+      (λ (x : ℕ). record v { min_write_recency_for_promote = x }) _ _ v u e9 r9 (λ e10.
       absurd (cc)))))))))))
 
   all_rows : with_value k d v ≡ Ok u
@@ -71,37 +71,37 @@ module _ {X : Type 0} (g : PoolValues → X) (k : List ℕ) (d : Data) (v u : Po
       → Stays (codes "hit_set_period") (λ (x : ℕ). record v { hit_set_period = x })
       → Stays (codes "hit_set_fpp") (λ (x : ℕ). record v { hit_set_fpp = x })
       → Stays (codes "hit_set_grade_decay_rate")
-          (λ (x : ℕ). record v { hit_set_grade_decay_rate = x })
+      (λ (x : ℕ). record v { hit_set_grade_decay_rate = x })
       → Stays (codes "hit_set_search_last_n") (λ (x : ℕ). record v { hit_set_search_last_n = x })
       → Stays (codes "cache_mode") (λ (x : Mode). record v { cache_mode = x })
       → Stays (codes "target_max_bytes") (λ (x : ℕ). record v { target_max_bytes = x })
       → Stays (codes "target_max_objects") (λ (x : ℕ). record v { target_max_objects = x })
       → Stays (codes "cache_target_dirty_ratio")
-          (λ (x : ℕ). record v { cache_target_dirty_ratio = x })
+      (λ (x : ℕ). record v { cache_target_dirty_ratio = x })
       → Stays (codes "cache_target_dirty_high_ratio")
-          (λ (x : ℕ). record v { cache_target_dirty_high_ratio = x })
+      (λ (x : ℕ). record v { cache_target_dirty_high_ratio = x })
       → Stays (codes "cache_target_full_ratio")
-          (λ (x : ℕ). record v { cache_target_full_ratio = x })
+      (λ (x : ℕ). record v { cache_target_full_ratio = x })
       → Stays (codes "cache_min_flush_age") (λ (x : ℕ). record v { cache_min_flush_age = x })
       → Stays (codes "cache_min_evict_age") (λ (x : ℕ). record v { cache_min_evict_age = x })
       → Stays (codes "min_read_recency_for_promote")
-          (λ (x : ℕ). record v { min_read_recency_for_promote = x })
+      (λ (x : ℕ). record v { min_read_recency_for_promote = x })
       → Stays (codes "min_write_recency_for_promote")
-          (λ (x : ℕ). record v { min_write_recency_for_promote = x })
+      (λ (x : ℕ). record v { min_write_recency_for_promote = x })
       → g u ≡ g v
   all_rows e h0 h1 h2 h3 h4 h5 r0 r1 r2 r3 r4 r5 r6 r7 r8 r9 =
       row g (bytes_eq k (codes "hit_set_type")) k (λ (x : HitType). record v { hit_set_type = x }) _
-          _ v u e h0 (λ e1.
+      _ v u e h0 (λ e1.
       row g (bytes_eq k (codes "hit_set_count")) k (λ (x : ℕ). record v { hit_set_count = x }) _ _ v
-          u e1 h1 (λ e2.
+      u e1 h1 (λ e2.
       row g (bytes_eq k (codes "hit_set_period")) k (λ (x : ℕ). record v { hit_set_period = x }) _ _
-          v u e2 h2 (λ e3.
+      v u e2 h2 (λ e3.
       row g (bytes_eq k (codes "hit_set_fpp")) k (λ (x : ℕ). record v { hit_set_fpp = x }) _ _ v u
-          e3 h3 (λ e4.
+      e3 h3 (λ e4.
       row g (bytes_eq k (codes "hit_set_grade_decay_rate")) k
-          (λ (x : ℕ). record v { hit_set_grade_decay_rate = x }) _ _ v u e4 h4 (λ e5.
+      (λ (x : ℕ). record v { hit_set_grade_decay_rate = x }) _ _ v u e4 h4 (λ e5.
       row g (bytes_eq k (codes "hit_set_search_last_n")) k
-          (λ (x : ℕ). record v { hit_set_search_last_n = x }) _ _ v u e5 h5 (λ e6.
+      (λ (x : ℕ). record v { hit_set_search_last_n = x }) _ _ v u e5 h5 (λ e6.
       cache_rows e6 r0 r1 r2 r3 r4 r5 r6 r7 r8 r9))))))
 
 neither : (a b : Bool) → (a || b) ≡ false → (a ≡ false) × (b ≡ false)
@@ -121,74 +121,74 @@ one : (k : List ℕ) (d : Data) (v u : PoolValues) → with_value k d v ≡ Ok u
 one k d v u e = record {
   hit_set_type = λ free. all_rows (λ w. w.hit_set_type) k d v u e
       (own k (codes "hit_set_type") free) (λ _ _. refl) (λ _ _. refl) (λ _ _. refl) (λ _ _. refl)
-          (λ _ _. refl) (λ _ _. refl) (λ _ _. refl) (λ _ _. refl) (λ _ _. refl) (λ _ _. refl)
-          (λ _ _. refl) (λ _ _. refl) (λ _ _. refl) (λ _ _. refl) (λ _ _. refl);
+      (λ _ _. refl) (λ _ _. refl) (λ _ _. refl) (λ _ _. refl) (λ _ _. refl) (λ _ _. refl)
+      (λ _ _. refl) (λ _ _. refl) (λ _ _. refl) (λ _ _. refl) (λ _ _. refl);
   hit_set_count = λ free. all_rows (λ w. w.hit_set_count) k d v u e
       (λ _ _. refl) (own k (codes "hit_set_count") free) (λ _ _. refl) (λ _ _. refl) (λ _ _. refl)
-          (λ _ _. refl) (λ _ _. refl) (λ _ _. refl) (λ _ _. refl) (λ _ _. refl) (λ _ _. refl)
-          (λ _ _. refl) (λ _ _. refl) (λ _ _. refl) (λ _ _. refl) (λ _ _. refl);
+      (λ _ _. refl) (λ _ _. refl) (λ _ _. refl) (λ _ _. refl) (λ _ _. refl) (λ _ _. refl)
+      (λ _ _. refl) (λ _ _. refl) (λ _ _. refl) (λ _ _. refl) (λ _ _. refl);
   hit_set_period = λ free. all_rows (λ w. w.hit_set_period) k d v u e
       (λ _ _. refl) (λ _ _. refl) (own k (codes "hit_set_period") free) (λ _ _. refl) (λ _ _. refl)
-          (λ _ _. refl) (λ _ _. refl) (λ _ _. refl) (λ _ _. refl) (λ _ _. refl) (λ _ _. refl)
-          (λ _ _. refl) (λ _ _. refl) (λ _ _. refl) (λ _ _. refl) (λ _ _. refl);
+      (λ _ _. refl) (λ _ _. refl) (λ _ _. refl) (λ _ _. refl) (λ _ _. refl) (λ _ _. refl)
+      (λ _ _. refl) (λ _ _. refl) (λ _ _. refl) (λ _ _. refl) (λ _ _. refl);
   hit_set_fpp = λ free. all_rows (λ w. w.hit_set_fpp) k d v u e
       (λ _ _. refl) (λ _ _. refl) (λ _ _. refl) (own k (codes "hit_set_fpp") free) (λ _ _. refl)
-          (λ _ _. refl) (λ _ _. refl) (λ _ _. refl) (λ _ _. refl) (λ _ _. refl) (λ _ _. refl)
-          (λ _ _. refl) (λ _ _. refl) (λ _ _. refl) (λ _ _. refl) (λ _ _. refl);
+      (λ _ _. refl) (λ _ _. refl) (λ _ _. refl) (λ _ _. refl) (λ _ _. refl) (λ _ _. refl)
+      (λ _ _. refl) (λ _ _. refl) (λ _ _. refl) (λ _ _. refl) (λ _ _. refl);
   hit_set_grade_decay_rate = λ free. all_rows (λ w. w.hit_set_grade_decay_rate) k d v u e
       (λ _ _. refl) (λ _ _. refl) (λ _ _. refl) (λ _ _. refl)
-          (own k (codes "hit_set_grade_decay_rate") free) (λ _ _. refl) (λ _ _. refl) (λ _ _. refl)
-          (λ _ _. refl) (λ _ _. refl) (λ _ _. refl) (λ _ _. refl) (λ _ _. refl) (λ _ _. refl)
-          (λ _ _. refl) (λ _ _. refl);
+      (own k (codes "hit_set_grade_decay_rate") free) (λ _ _. refl) (λ _ _. refl) (λ _ _. refl)
+      (λ _ _. refl) (λ _ _. refl) (λ _ _. refl) (λ _ _. refl) (λ _ _. refl) (λ _ _. refl)
+      (λ _ _. refl) (λ _ _. refl);
   hit_set_search_last_n = λ free. all_rows (λ w. w.hit_set_search_last_n) k d v u e
       (λ _ _. refl) (λ _ _. refl) (λ _ _. refl) (λ _ _. refl) (λ _ _. refl)
-          (own k (codes "hit_set_search_last_n") free) (λ _ _. refl) (λ _ _. refl) (λ _ _. refl)
-          (λ _ _. refl) (λ _ _. refl) (λ _ _. refl) (λ _ _. refl) (λ _ _. refl) (λ _ _. refl)
-          (λ _ _. refl);
+      (own k (codes "hit_set_search_last_n") free) (λ _ _. refl) (λ _ _. refl) (λ _ _. refl)
+      (λ _ _. refl) (λ _ _. refl) (λ _ _. refl) (λ _ _. refl) (λ _ _. refl) (λ _ _. refl)
+      (λ _ _. refl);
   cache_mode = λ free. all_rows (λ w. w.cache_mode) k d v u e
       (λ _ _. refl) (λ _ _. refl) (λ _ _. refl) (λ _ _. refl) (λ _ _. refl) (λ _ _. refl)
-          (own k (codes "cache_mode") free) (λ _ _. refl) (λ _ _. refl) (λ _ _. refl) (λ _ _. refl)
-          (λ _ _. refl) (λ _ _. refl) (λ _ _. refl) (λ _ _. refl) (λ _ _. refl);
+      (own k (codes "cache_mode") free) (λ _ _. refl) (λ _ _. refl) (λ _ _. refl) (λ _ _. refl)
+      (λ _ _. refl) (λ _ _. refl) (λ _ _. refl) (λ _ _. refl) (λ _ _. refl);
   target_max_bytes = λ free. all_rows (λ w. w.target_max_bytes) k d v u e
       (λ _ _. refl) (λ _ _. refl) (λ _ _. refl) (λ _ _. refl) (λ _ _. refl) (λ _ _. refl)
-          (λ _ _. refl) (own k (codes "target_max_bytes") free) (λ _ _. refl) (λ _ _. refl)
-          (λ _ _. refl) (λ _ _. refl) (λ _ _. refl) (λ _ _. refl) (λ _ _. refl) (λ _ _. refl);
+      (λ _ _. refl) (own k (codes "target_max_bytes") free) (λ _ _. refl) (λ _ _. refl)
+      (λ _ _. refl) (λ _ _. refl) (λ _ _. refl) (λ _ _. refl) (λ _ _. refl) (λ _ _. refl);
   target_max_objects = λ free. all_rows (λ w. w.target_max_objects) k d v u e
       (λ _ _. refl) (λ _ _. refl) (λ _ _. refl) (λ _ _. refl) (λ _ _. refl) (λ _ _. refl)
-          (λ _ _. refl) (λ _ _. refl) (own k (codes "target_max_objects") free) (λ _ _. refl)
-          (λ _ _. refl) (λ _ _. refl) (λ _ _. refl) (λ _ _. refl) (λ _ _. refl) (λ _ _. refl);
+      (λ _ _. refl) (λ _ _. refl) (own k (codes "target_max_objects") free) (λ _ _. refl)
+      (λ _ _. refl) (λ _ _. refl) (λ _ _. refl) (λ _ _. refl) (λ _ _. refl) (λ _ _. refl);
   cache_target_dirty_ratio = λ free. all_rows (λ w. w.cache_target_dirty_ratio) k d v u e
       (λ _ _. refl) (λ _ _. refl) (λ _ _. refl) (λ _ _. refl) (λ _ _. refl) (λ _ _. refl)
-          (λ _ _. refl) (λ _ _. refl) (λ _ _. refl) (own k (codes "cache_target_dirty_ratio") free)
-          (λ _ _. refl) (λ _ _. refl) (λ _ _. refl) (λ _ _. refl) (λ _ _. refl) (λ _ _. refl);
+      (λ _ _. refl) (λ _ _. refl) (λ _ _. refl) (own k (codes "cache_target_dirty_ratio") free)
+      (λ _ _. refl) (λ _ _. refl) (λ _ _. refl) (λ _ _. refl) (λ _ _. refl) (λ _ _. refl);
   cache_target_dirty_high_ratio = λ free. all_rows (λ w. w.cache_target_dirty_high_ratio) k d v u e
       (λ _ _. refl) (λ _ _. refl) (λ _ _. refl) (λ _ _. refl) (λ _ _. refl) (λ _ _. refl)
-          (λ _ _. refl) (λ _ _. refl) (λ _ _. refl) (λ _ _. refl)
-          (own k (codes "cache_target_dirty_high_ratio") free) (λ _ _. refl) (λ _ _. refl)
-          (λ _ _. refl) (λ _ _. refl) (λ _ _. refl);
+      (λ _ _. refl) (λ _ _. refl) (λ _ _. refl) (λ _ _. refl)
+      (own k (codes "cache_target_dirty_high_ratio") free) (λ _ _. refl) (λ _ _. refl)
+      (λ _ _. refl) (λ _ _. refl) (λ _ _. refl);
   cache_target_full_ratio = λ free. all_rows (λ w. w.cache_target_full_ratio) k d v u e
       (λ _ _. refl) (λ _ _. refl) (λ _ _. refl) (λ _ _. refl) (λ _ _. refl) (λ _ _. refl)
-          (λ _ _. refl) (λ _ _. refl) (λ _ _. refl) (λ _ _. refl) (λ _ _. refl)
-          (own k (codes "cache_target_full_ratio") free) (λ _ _. refl) (λ _ _. refl) (λ _ _. refl)
-          (λ _ _. refl);
+      (λ _ _. refl) (λ _ _. refl) (λ _ _. refl) (λ _ _. refl) (λ _ _. refl)
+      (own k (codes "cache_target_full_ratio") free) (λ _ _. refl) (λ _ _. refl) (λ _ _. refl)
+      (λ _ _. refl);
   cache_min_flush_age = λ free. all_rows (λ w. w.cache_min_flush_age) k d v u e
       (λ _ _. refl) (λ _ _. refl) (λ _ _. refl) (λ _ _. refl) (λ _ _. refl) (λ _ _. refl)
-          (λ _ _. refl) (λ _ _. refl) (λ _ _. refl) (λ _ _. refl) (λ _ _. refl) (λ _ _. refl)
-          (own k (codes "cache_min_flush_age") free) (λ _ _. refl) (λ _ _. refl) (λ _ _. refl);
+      (λ _ _. refl) (λ _ _. refl) (λ _ _. refl) (λ _ _. refl) (λ _ _. refl) (λ _ _. refl)
+      (own k (codes "cache_min_flush_age") free) (λ _ _. refl) (λ _ _. refl) (λ _ _. refl);
   cache_min_evict_age = λ free. all_rows (λ w. w.cache_min_evict_age) k d v u e
       (λ _ _. refl) (λ _ _. refl) (λ _ _. refl) (λ _ _. refl) (λ _ _. refl) (λ _ _. refl)
-          (λ _ _. refl) (λ _ _. refl) (λ _ _. refl) (λ _ _. refl) (λ _ _. refl) (λ _ _. refl)
-          (λ _ _. refl) (own k (codes "cache_min_evict_age") free) (λ _ _. refl) (λ _ _. refl);
+      (λ _ _. refl) (λ _ _. refl) (λ _ _. refl) (λ _ _. refl) (λ _ _. refl) (λ _ _. refl)
+      (λ _ _. refl) (own k (codes "cache_min_evict_age") free) (λ _ _. refl) (λ _ _. refl);
   min_read_recency_for_promote = λ free. all_rows (λ w. w.min_read_recency_for_promote) k d v u e
       (λ _ _. refl) (λ _ _. refl) (λ _ _. refl) (λ _ _. refl) (λ _ _. refl) (λ _ _. refl)
-          (λ _ _. refl) (λ _ _. refl) (λ _ _. refl) (λ _ _. refl) (λ _ _. refl) (λ _ _. refl)
-          (λ _ _. refl) (λ _ _. refl) (own k (codes "min_read_recency_for_promote") free)
-          (λ _ _. refl);
+      (λ _ _. refl) (λ _ _. refl) (λ _ _. refl) (λ _ _. refl) (λ _ _. refl) (λ _ _. refl)
+      (λ _ _. refl) (λ _ _. refl) (own k (codes "min_read_recency_for_promote") free)
+      (λ _ _. refl);
   min_write_recency_for_promote = λ free. all_rows (λ w. w.min_write_recency_for_promote) k d v u e
       (λ _ _. refl) (λ _ _. refl) (λ _ _. refl) (λ _ _. refl) (λ _ _. refl) (λ _ _. refl)
-          (λ _ _. refl) (λ _ _. refl) (λ _ _. refl) (λ _ _. refl) (λ _ _. refl) (λ _ _. refl)
-          (λ _ _. refl) (λ _ _. refl) (λ _ _. refl)
-          (own k (codes "min_write_recency_for_promote") free);
+      (λ _ _. refl) (λ _ _. refl) (λ _ _. refl) (λ _ _. refl) (λ _ _. refl) (λ _ _. refl)
+      (λ _ _. refl) (λ _ _. refl) (λ _ _. refl)
+      (own k (codes "min_write_recency_for_promote") free);
 }
 
 -- members, one behind the others
@@ -201,67 +201,67 @@ more k d ms v w u first rest = record {
       rest.hit_set_type at.1 ∙ first.hit_set_type (ap (λ b. b || false) at.0);
   hit_set_count = λ free.
       let at = neither (bytes_eq k (codes "hit_set_count")) (names (codes "hit_set_count") ms) free
-          in
+      in
       rest.hit_set_count at.1 ∙ first.hit_set_count (ap (λ b. b || false) at.0);
   hit_set_period = λ free.
       let at = neither (bytes_eq k (codes "hit_set_period")) (names (codes "hit_set_period") ms)
-          free in
+      free in
       rest.hit_set_period at.1 ∙ first.hit_set_period (ap (λ b. b || false) at.0);
   hit_set_fpp = λ free.
       let at = neither (bytes_eq k (codes "hit_set_fpp")) (names (codes "hit_set_fpp") ms) free in
       rest.hit_set_fpp at.1 ∙ first.hit_set_fpp (ap (λ b. b || false) at.0);
   hit_set_grade_decay_rate = λ free.
       let at = neither (bytes_eq k (codes "hit_set_grade_decay_rate"))
-          (names (codes "hit_set_grade_decay_rate") ms) free in
+      (names (codes "hit_set_grade_decay_rate") ms) free in
       rest.hit_set_grade_decay_rate at.1 ∙ first.hit_set_grade_decay_rate
-          (ap (λ b. b || false) at.0);
+      (ap (λ b. b || false) at.0);
   hit_set_search_last_n = λ free.
       let at = neither (bytes_eq k (codes "hit_set_search_last_n"))
-          (names (codes "hit_set_search_last_n") ms) free in
+      (names (codes "hit_set_search_last_n") ms) free in
       rest.hit_set_search_last_n at.1 ∙ first.hit_set_search_last_n (ap (λ b. b || false) at.0);
   cache_mode = λ free.
       let at = neither (bytes_eq k (codes "cache_mode")) (names (codes "cache_mode") ms) free in
       rest.cache_mode at.1 ∙ first.cache_mode (ap (λ b. b || false) at.0);
   target_max_bytes = λ free.
       let at = neither (bytes_eq k (codes "target_max_bytes")) (names (codes "target_max_bytes") ms)
-          free in
+      free in
       rest.target_max_bytes at.1 ∙ first.target_max_bytes (ap (λ b. b || false) at.0);
   target_max_objects = λ free.
       let at = neither (bytes_eq k (codes "target_max_objects"))
-          (names (codes "target_max_objects") ms) free in
+      (names (codes "target_max_objects") ms) free in
       rest.target_max_objects at.1 ∙ first.target_max_objects (ap (λ b. b || false) at.0);
   cache_target_dirty_ratio = λ free.
       let at = neither (bytes_eq k (codes "cache_target_dirty_ratio"))
-          (names (codes "cache_target_dirty_ratio") ms) free in
+      (names (codes "cache_target_dirty_ratio") ms) free in
       rest.cache_target_dirty_ratio at.1 ∙ first.cache_target_dirty_ratio
-          (ap (λ b. b || false) at.0);
+      (ap (λ b. b || false) at.0);
   cache_target_dirty_high_ratio = λ free.
       let at = neither (bytes_eq k (codes "cache_target_dirty_high_ratio"))
-          (names (codes "cache_target_dirty_high_ratio") ms) free in
+      (names (codes "cache_target_dirty_high_ratio") ms) free in
       rest.cache_target_dirty_high_ratio at.1
-          ∙ first.cache_target_dirty_high_ratio (ap (λ b. b || false) at.0);
+      ∙ first.cache_target_dirty_high_ratio (ap (λ b. b || false) at.0);
   cache_target_full_ratio = λ free.
       let at = neither (bytes_eq k (codes "cache_target_full_ratio"))
-          (names (codes "cache_target_full_ratio") ms) free in
+      (names (codes "cache_target_full_ratio") ms) free in
       rest.cache_target_full_ratio at.1 ∙ first.cache_target_full_ratio (ap (λ b. b || false) at.0);
   cache_min_flush_age = λ free.
       let at = neither (bytes_eq k (codes "cache_min_flush_age"))
-          (names (codes "cache_min_flush_age") ms) free in
+      (names (codes "cache_min_flush_age") ms) free in
       rest.cache_min_flush_age at.1 ∙ first.cache_min_flush_age (ap (λ b. b || false) at.0);
   cache_min_evict_age = λ free.
       let at = neither (bytes_eq k (codes "cache_min_evict_age"))
-          (names (codes "cache_min_evict_age") ms) free in
+      (names (codes "cache_min_evict_age") ms) free in
       rest.cache_min_evict_age at.1 ∙ first.cache_min_evict_age (ap (λ b. b || false) at.0);
   min_read_recency_for_promote = λ free.
       let at = neither (bytes_eq k (codes "min_read_recency_for_promote"))
-          (names (codes "min_read_recency_for_promote") ms) free in
+      (names (codes "min_read_recency_for_promote") ms) free in
       rest.min_read_recency_for_promote at.1
-          ∙ first.min_read_recency_for_promote (ap (λ b. b || false) at.0);
+      ∙ first.min_read_recency_for_promote (ap (λ b. b || false) at.0);
   min_write_recency_for_promote = λ free.
       let at = neither (bytes_eq k (codes "min_write_recency_for_promote"))
-          (names (codes "min_write_recency_for_promote") ms) free in
+      (names (codes "min_write_recency_for_promote") ms) free in
       rest.min_write_recency_for_promote at.1
-          ∙ first.min_write_recency_for_promote (ap (λ b. b || false) at.0);
+      ∙ first.min_write_recency_for_promote (ap (λ b. b || false) at.0);
 }
 
 same : (v : PoolValues) (ms : Members) → KeepsUnnamed ms v v
@@ -287,7 +287,7 @@ same v ms = record {
 -- what is left of the members comes behind the first
 behind : (r : Result PoolValues Wrong) (ms : Members) (u : PoolValues)
     → ◌≡◌ {A = Result PoolValues Wrong} (elim r [ Ok w ↦ with_all ms w | Err wrong ↦ Err wrong ])
-        (Ok u)
+    (Ok u)
     → (w : PoolValues) × (r ≡ Ok w) × (with_all ms w ≡ Ok u)
 behind (Ok w) ms u e = (w, refl, e)
 behind (Err wrong) ms u e = absurd (cc)

@@ -83,42 +83,42 @@ put_in key puts (Some a) = Ok (puts a)
 abbrev pub with_cache_value : List ℕ → Data → PoolValues → Result PoolValues Wrong
 with_cache_value key d v =
     if bytes_eq key (codes "cache_mode") then
-        put_in key (λ m. record v { cache_mode = m }) (mode_in d)
+    put_in key (λ m. record v { cache_mode = m }) (mode_in d)
     else if bytes_eq key (codes "target_max_bytes") then
-        put_in key (λ n. record v { target_max_bytes = n }) (number_in 0 4611686018427387904 d)
+    put_in key (λ n. record v { target_max_bytes = n }) (number_in 0 4611686018427387904 d)
     else if bytes_eq key (codes "target_max_objects") then
-        put_in key (λ n. record v { target_max_objects = n }) (number_in 0 4611686018427387904 d)
+    put_in key (λ n. record v { target_max_objects = n }) (number_in 0 4611686018427387904 d)
     else if bytes_eq key (codes "cache_target_dirty_ratio") then
-        put_in key (λ n. record v { cache_target_dirty_ratio = n }) (number_in 0 1000000 d)
+    put_in key (λ n. record v { cache_target_dirty_ratio = n }) (number_in 0 1000000 d)
     else if bytes_eq key (codes "cache_target_dirty_high_ratio") then
-        put_in key (λ n. record v { cache_target_dirty_high_ratio = n }) (number_in 0 1000000 d)
+    put_in key (λ n. record v { cache_target_dirty_high_ratio = n }) (number_in 0 1000000 d)
     else if bytes_eq key (codes "cache_target_full_ratio") then
-        put_in key (λ n. record v { cache_target_full_ratio = n }) (number_in 0 1000000 d)
+    put_in key (λ n. record v { cache_target_full_ratio = n }) (number_in 0 1000000 d)
     else if bytes_eq key (codes "cache_min_flush_age") then
-        put_in key (λ n. record v { cache_min_flush_age = n }) (number_in 0 4294967295 d)
+    put_in key (λ n. record v { cache_min_flush_age = n }) (number_in 0 4294967295 d)
     else if bytes_eq key (codes "cache_min_evict_age") then
-        put_in key (λ n. record v { cache_min_evict_age = n }) (number_in 0 4294967295 d)
+    put_in key (λ n. record v { cache_min_evict_age = n }) (number_in 0 4294967295 d)
     else if bytes_eq key (codes "min_read_recency_for_promote") then
-        put_in key (λ n. record v { min_read_recency_for_promote = n }) (number_in 0 65 d)
+    put_in key (λ n. record v { min_read_recency_for_promote = n }) (number_in 0 65 d)
     else if bytes_eq key (codes "min_write_recency_for_promote") then
-        put_in key (λ n. record v { min_write_recency_for_promote = n }) (number_in 0 65 d)
+    put_in key (λ n. record v { min_write_recency_for_promote = n }) (number_in 0 65 d)
     else Err (Unknown key)
 
 -- the rows of the keys on hit sets, and below them all others
 abbrev pub with_value : List ℕ → Data → PoolValues → Result PoolValues Wrong
 with_value key d v =
     if bytes_eq key (codes "hit_set_type") then
-        put_in key (λ t. record v { hit_set_type = t }) (hit_type_in d)
+    put_in key (λ t. record v { hit_set_type = t }) (hit_type_in d)
     else if bytes_eq key (codes "hit_set_count") then
-        put_in key (λ n. record v { hit_set_count = n }) (number_in 0 64 d)
+    put_in key (λ n. record v { hit_set_count = n }) (number_in 0 64 d)
     else if bytes_eq key (codes "hit_set_period") then
-        put_in key (λ n. record v { hit_set_period = n }) (number_in 1 4294967295 d)
+    put_in key (λ n. record v { hit_set_period = n }) (number_in 1 4294967295 d)
     else if bytes_eq key (codes "hit_set_fpp") then
-        put_in key (λ n. record v { hit_set_fpp = n }) (rate_in d)
+    put_in key (λ n. record v { hit_set_fpp = n }) (rate_in d)
     else if bytes_eq key (codes "hit_set_grade_decay_rate") then
-        put_in key (λ n. record v { hit_set_grade_decay_rate = n }) (number_in 0 100 d)
+    put_in key (λ n. record v { hit_set_grade_decay_rate = n }) (number_in 0 100 d)
     else if bytes_eq key (codes "hit_set_search_last_n") then
-        put_in key (λ n. record v { hit_set_search_last_n = n }) (number_in 0 64 d)
+    put_in key (λ n. record v { hit_set_search_last_n = n }) (number_in 0 64 d)
     else with_cache_value key d v
 
 -- the members of an object over some values, in the order of their keys' bytes; the first wrong one

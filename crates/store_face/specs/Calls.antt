@@ -44,7 +44,8 @@ Got key old new (Ok value) = Stays old new × Holds old (λ t. value ≡ fin.get
 Got key old new (Err fault) = ReadFails fault old new
 
 -- `keys_after` gives the map's first keys above the bound and changes nothing
-abbrev pub Listed : Option (List ℕ) → ℕ → StoreView → StoreView → Result (List (List ℕ)) StoreFault → Type 0
+abbrev pub Listed : Option (List ℕ) → ℕ → StoreView → StoreView → Result (List (List ℕ)) StoreFault
+    → Type 0
 Listed bound most old new (Ok keys) =
     Stays old new × Holds old (λ t. keys ≡ take most (keys_above bound t))
 Listed bound most old new (Err fault) = ReadFails fault old new
@@ -85,7 +86,8 @@ Committed changes old new (Err (BadImage at)) = ⊥
 Committed changes old new (Err (NoSpace used need limit)) =
     Lacks old changes (Some (record { used = used; need = need; limit = limit })) × Stays old new
 Committed changes old new (Err (Worn limit)) =
-    Lacks old changes None × IsWornOut old.room old.used × (limit ≡ generation_limit) × Stays old new
+    Lacks old changes None × IsWornOut old.room old.used × (limit ≡ generation_limit)
+    × Stays old new
 Committed changes old new (Err NoMemory) = Stays old new
 
 -- at each moment since, a crash leaves what a crash would have left before

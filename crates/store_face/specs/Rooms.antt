@@ -87,7 +87,11 @@ BlockLacks blocks area t changes (Some lack) =
     × (lack ≡ record { used = blocks_used t; need = sum_by blocks_put changes; limit = blocks }))
     ⊎ (HasBlocks blocks t changes × (has_put changes ≡ true)
     × (area < index_size (changed_by t changes))
-    × (lack ≡ record { used = index_size t; need = index_size (changed_by t changes) - index_size t; limit = area }))
+    × (lack ≡ record {
+      used = index_size t;
+      need = index_size (changed_by t changes) - index_size t;
+      limit = area;
+    }))
 
 -- ---- either
 

@@ -38,7 +38,8 @@ fn join_standing(
 ) -> Result<(), NoMemory>
     requires place { IsSome (fin.get flights.old name.now) }
     requires joins { MayJoin (Some standing) work }
-    ensures added { OnOk result (flights.new ≡ put_left flights.old name.now (Some (joined (Some standing) work))) }
+    ensures added { OnOk result (flights.new ≡ put_left flights.old name.now
+        (Some (joined (Some standing) work))) }
     ensures refused { OnErr result (flights.new ≡ put_left flights.old name.now (Some standing)) }
 {
     match joined(standing, work) {

@@ -14,7 +14,13 @@ pub record DiskMoment : Type 0 where
 
 -- all of it is settled
 abbrev pub settled : List ℕ → DiskMoment
-settled bytes = record { content = bytes; stable = bytes; touched = []; low = length bytes; high = length bytes }
+settled bytes = record {
+  content = bytes;
+  stable = bytes;
+  touched = [];
+  low = length bytes;
+  high = length bytes;
+}
 
 -- all that the disk reads as is settled
 abbrev pub IsSettled : DiskMoment → Type 0
@@ -30,7 +36,8 @@ is_touched (range ∷ ranges) i = (nat_le range.0 i && nat_lt i range.1) || is_t
 pub record IsImage (d : DiskMoment) (image : List ℕ) : Type 0 where
   pub no_shorter : d.low ≤ length image
   pub no_longer : length image ≤ d.high
-  pub kept : (i : ℕ) → i < d.low → is_touched d.touched i ≡ false → slice_index image i ≡ slice_index d.stable i
+  pub kept : (i : ℕ) → i < d.low → is_touched d.touched i ≡ false
+      → slice_index image i ≡ slice_index d.stable i
 
 -- the bytes of a range are settled: no write since began among them, and the disk was never shorter
 pub record RangeStands (from to : ℕ) (d : DiskMoment) : Type 0 where
@@ -64,7 +71,13 @@ resized size old = take size old ++ replicate (size - length old) 0
 
 -- a write of so many bytes began, after which the disk reads as `now`
 abbrev pub touch : ℕ → ℕ → List ℕ → DiskMoment → DiskMoment
-touch off count now d = record { content = now; stable = d.stable; touched = d.touched ++ (off, off + count) ∷ []; low = d.low; high = max d.high (reach off count) }
+touch off count now d = record {
+  content = now;
+  stable = d.stable;
+  touched = d.touched ++ (off, off + count) ∷ [];
+  low = d.low;
+  high = max d.high (reach off count);
+}
 
 -- a stop might leave this image in one write to this range, and nothing outside of it
 abbrev pub StopsIn : ℕ → ℕ → DiskMoment → List ℕ → Type 0
@@ -72,7 +85,13 @@ StopsIn off count d image = IsImage (touch off count d.content d) image
 
 -- a cut began, after which the disk reads as `now`
 abbrev pub trim : ℕ → List ℕ → DiskMoment → DiskMoment
-trim size now d = record { content = now; stable = d.stable; touched = d.touched; low = min d.low size; high = max d.high size }
+trim size now d = record {
+  content = now;
+  stable = d.stable;
+  touched = d.touched;
+  low = min d.low size;
+  high = max d.high size;
+}
 
 -- A write began, and any part of its work may be done: the disk reads as what a stop in this write
 -- alone might leave of what it read as before.

@@ -38,10 +38,11 @@ pub record Since {M : Type 0} (old new : Option (List M)) (P : M → Type 0) : T
   pub each : Each more P
 
 -- where moments are told, each one since stands so to the one that was now
-pub record Grows {M : Type 0} (start : M) (old new : Option (List M)) (P : M → M → Type 0) : Type 0 where
-  pub more : List M
-  pub grew : new ≡ grown old more
-  pub each : Now start old (λ was. Each more (P was))
+pub record Grows {M : Type 0} (start : M) (old new : Option (List M)) (P : M → M → Type 0) : Type 0
+  where
+    pub more : List M
+    pub grew : new ≡ grown old more
+    pub each : Now start old (λ was. Each more (P was))
 
 -- something that is told where moments are
 abbrev pub told : {M T : Type 0} → Option (List M) → T → Option T

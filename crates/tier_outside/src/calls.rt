@@ -27,7 +27,10 @@ impl Calls {
     /// Counts a call, and a fault where its number is listed.
     pub fn next_fails(&mut self) -> bool
         ensures listed { result ≡ is_listed (one_more self.old.made) self.old.fails.items }
-        ensures counts { self.new ≡ record self.old { made = one_more self.old.made; faults = (if result then one_more self.old.faults else self.old.faults) } }
+        ensures counts { self.new ≡ record self.old {
+          made = one_more self.old.made;
+          faults = (if result then one_more self.old.faults else self.old.faults);
+        } }
         ensures later { self.old.faults ≤ self.new.faults }
         ensures rose { result ≡ true → Rose self.old.faults self.new.faults }
     {

@@ -38,7 +38,8 @@ pub trait Disk {
     fn write_at(&mut self, off: u64, bytes: &[u8]) -> Result<(), DiskFault>
         requires { off + length bytes.now ≤ 2 ^ 41 }
         ensures step { Goes (Writes off (length bytes.now)) (moments self.old) (moments self.new) }
-        ensures done { OnOk result (Then (moments self.old) (moments self.new) (λ d e. e.content ≡ written off bytes.now d.content)) }
+        ensures done { OnOk result (Then (moments self.old) (moments self.new)
+            (λ d e. e.content ≡ written off bytes.now d.content)) }
         ensures image { Now (moments self.new) (λ d. IsImage d d.content) }
         ensures cause { HasCause (faults self.old) (faults self.new) result };
 
@@ -46,7 +47,8 @@ pub trait Disk {
     fn cut(&mut self, size: u64) -> Result<(), DiskFault>
         requires { size ≤ 2 ^ 41 }
         ensures step { Goes (Cuts size) (moments self.old) (moments self.new) }
-        ensures done { OnOk result (Then (moments self.old) (moments self.new) (λ d e. e.content ≡ resized size d.content)) }
+        ensures done { OnOk result (Then (moments self.old) (moments self.new)
+            (λ d e. e.content ≡ resized size d.content)) }
         ensures image { Now (moments self.new) (λ d. IsImage d d.content) }
         ensures cause { HasCause (faults self.old) (faults self.new) result };
 

@@ -22,7 +22,12 @@ impl Model for MemSink {
 
     ghost Value = { SinkState };
 
-    ghost view = { λ s. record { held = s.bytes.items; fails = s.calls.fails.items; calls = s.calls.made; faults = s.calls.faults } };
+    ghost view = { λ s. record {
+      held = s.bytes.items;
+      fails = s.calls.fails.items;
+      calls = s.calls.made;
+      faults = s.calls.faults;
+    } };
 }
 
 impl MemSink {
@@ -69,10 +74,17 @@ impl Sink for MemSink {
         ensures bytes { Puts (Some self.old.held) (Some self.new.held) piece.now result }
         ensures cause { HasCause self.old.faults self.new.faults result }
         ensures listed { OnOk result (is_listed (one_more self.old.calls) self.old.fails ≡ false) }
-        ensures unlisted { OnErr result (is_listed (one_more self.old.calls) self.old.fails ≡ false → 0 < length piece.now) }
+        ensures unlisted { OnErr result (is_listed (one_more self.old.calls) self.old.fails ≡ false
+            → 0 < length piece.now) }
         ensures state { MatchResult result
-            (λ _. self.new ≡ record self.old { held = self.old.held ++ piece.now; calls = one_more self.old.calls })
-            (λ _. self.new ≡ record self.old { calls = one_more self.old.calls; faults = one_more self.old.faults }) }
+            (λ _. self.new ≡ record self.old {
+              held = self.old.held ++ piece.now;
+              calls = one_more self.old.calls;
+            })
+            (λ _. self.new ≡ record self.old {
+              calls = one_more self.old.calls;
+              faults = one_more self.old.faults;
+            }) }
     {
         if self.calls.next_fails() {
             return Err(SinkFault);

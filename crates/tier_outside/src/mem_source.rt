@@ -24,7 +24,12 @@ impl Model for MemSource {
 
     ghost Value = { SourceState };
 
-    ghost view = { λ s. record { left = drop s.position s.bytes.items; fails = s.calls.fails.items; calls = s.calls.made; faults = s.calls.faults } };
+    ghost view = { λ s. record {
+      left = drop s.position s.bytes.items;
+      fails = s.calls.fails.items;
+      calls = s.calls.made;
+      faults = s.calls.faults;
+    } };
 
     ghost invariant = { λ s. s.position ≤ vec_len s.bytes };
 }
@@ -33,7 +38,12 @@ impl MemSource {
     /// A source of these bytes that fails at the calls whose numbers are in `fails`, the first
     /// call being 1. The order of the numbers does not matter.
     pub fn new(bytes: Vec<u8>, fails: Vec<u64>) -> MemSource
-        ensures { result ≡ record { left = bytes.items; fails = fails.items; calls = 0; faults = 0 } }
+        ensures { result ≡ record {
+          left = bytes.items;
+          fails = fails.items;
+          calls = 0;
+          faults = 0;
+        } }
     {
         MemSource {
             bytes,
@@ -80,9 +90,16 @@ impl Source for MemSource {
         ensures listed { FailsWhereListed self.old.fails self.old.calls result }
         ensures count { IfOk result (λ count. count ≡ min (length buf.old) (length self.old.left)) }
         ensures state { MatchResult result
-            (λ count. self.new ≡ record self.old { left = drop count self.old.left; calls = one_more self.old.calls })
-            (λ _. self.new ≡ record self.old { calls = one_more self.old.calls; faults = one_more self.old.faults }) }
-        ensures rest { MatchResult result (λ count. drop count buf.new ≡ drop count buf.old) (λ _. buf.new ≡ buf.old) }
+            (λ count. self.new ≡ record self.old {
+              left = drop count self.old.left;
+              calls = one_more self.old.calls;
+            })
+            (λ _. self.new ≡ record self.old {
+              calls = one_more self.old.calls;
+              faults = one_more self.old.faults;
+            }) }
+        ensures rest { MatchResult result (λ count. drop count buf.new ≡ drop count buf.old)
+            (λ _. buf.new ≡ buf.old) }
     {
         if self.calls.next_fails() {
             return Err(SourceFault);

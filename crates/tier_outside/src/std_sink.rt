@@ -29,7 +29,10 @@ impl<W: Write> Model for StdSink<W> {
 
     ghost Value = { StreamState };
 
-    ghost view = { λ s. record { bytes = told_since (W.contents s.start.value) (W.contents s.inner); faults = s.faults } };
+    ghost view = { λ s. record {
+      bytes = told_since (W.contents s.start.value) (W.contents s.inner);
+      faults = s.faults;
+    } };
 
     ghost invariant = { λ s. IfSome (W.contents s.start.value) (λ _. IsSome (W.contents s.inner)) };
 }

@@ -28,7 +28,10 @@ impl<R: Read> Model for StdSource<R> {
 
     ghost Value = { StreamState };
 
-    ghost view = { λ s. record { bytes = told_since (R.remaining s.start.value) (R.remaining s.inner); faults = s.faults } };
+    ghost view = { λ s. record {
+      bytes = told_since (R.remaining s.start.value) (R.remaining s.inner);
+      faults = s.faults;
+    } };
 
     ghost invariant = { λ s. IfSome (R.remaining s.start.value) (λ _. IsSome (R.remaining s.inner)) };
 }

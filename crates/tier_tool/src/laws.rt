@@ -19,7 +19,8 @@ pub fn requests_make_the_store(_lines: &[Numbered])
 {}
 
 /// A run that opens a disk which is a log goes on from the plain store that its map stands for,
-/// with as much of the room used: what was left by a crash, or by the end of the run before it, is what
+/// with as much of the room used: what was left by a crash, or by the end of the run before it, is
+/// what
 /// the lines of the next one are answered from, and what their records come behind.
 pub fn the_next_run_goes_on()
     ensures { TheNextRunGoesOn }

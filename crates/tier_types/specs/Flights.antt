@@ -66,12 +66,17 @@ reads_of (Some (Flight.Write driver owner o r)) = []
 reads_of (Some (Flight.Reads list)) = list
 reads_of (Some (Flight.Flush call o seq blocking drain)) = []
 
--- What is left of work, where calls end and others take over: all of it; nothing, of what is no write
--- request; a write request or a flush with another call that waits for it, or none; some of the reads.
+-- What is left of work, where calls end and others take over: all of it; nothing, of what is no
+-- write
+-- request; a write request or a flush with another call that waits for it, or none; some of the
+-- reads.
 abbrev pub IsLeftOf : (old left : Option Flight) → Type 0
 IsLeftOf old None = is_write old ≡ false
-IsLeftOf old (Some (Flight.Promote call o gather ask)) = old ≡ Some (Flight.Promote call o gather ask)
-IsLeftOf old (Some (Flight.Write driver owner o r)) = (other : Option ℕ) × (old ≡ Some (Flight.Write other owner o r))
-IsLeftOf old (Some (Flight.Reads list)) = (all : List ReadFlight) × (old ≡ Some (Flight.Reads all)) × AreIn list all
+IsLeftOf old (Some (Flight.Promote call o gather ask)) = old ≡ Some
+    (Flight.Promote call o gather ask)
+IsLeftOf old (Some (Flight.Write driver owner o r)) = (other : Option ℕ)
+    × (old ≡ Some (Flight.Write other owner o r))
+IsLeftOf old (Some (Flight.Reads list)) = (all : List ReadFlight) × (old ≡ Some (Flight.Reads all))
+    × AreIn list all
 IsLeftOf old (Some (Flight.Flush call o seq blocking drain)) =
     (other : Option ℕ) × (old ≡ Some (Flight.Flush other o seq blocking drain))

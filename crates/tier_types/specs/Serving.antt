@@ -65,7 +65,8 @@ pub record Served : Type 0 where
 abbrev pub replies : ℕ → BaseReply → Served
 replies have reply = record { epoch = have; put = None; reply = reply }
 
--- a message of the base's own epoch is served; one of a lower epoch, or of one that the base was not
+-- a message of the base's own epoch is served; one of a lower epoch, or of one that the base was
+-- not
 -- told of, is refused
 abbrev pub in_epoch : (have got : ℕ) → Served → Served
 in_epoch have got done =
@@ -73,7 +74,8 @@ in_epoch have got done =
     else if nat_lt have got then replies have (BaseReply.NotFenced have got)
     else done
 
--- What a base at this epoch, with this state of the message's name, makes of the message. A Fence of
+-- What a base at this epoch, with this state of the message's name, makes of the message. A Fence
+-- of
 -- no lower epoch is taken; a state is installed over one that has had fewer requests.
 abbrev pub served : (have : ℕ) → NameState → BaseMsg → Served
 served have s (BaseMsg.Fence e) =
@@ -84,7 +86,11 @@ served have s (BaseMsg.GetChunk e op name at) =
 served have s (BaseMsg.Look e op name v) =
     in_epoch have e (replies have (BaseReply.Looked e op (look s v)))
 served have s (BaseMsg.Write e op r) =
-    in_epoch have e (record { epoch = have; put = put_by (act s r); reply = BaseReply.Wrote e op (told_of (act s r)) })
+    in_epoch have e (record {
+      epoch = have;
+      put = put_by (act s r);
+      reply = BaseReply.Wrote e op (told_of (act s r));
+    })
 served have s (BaseMsg.Install e op name t) =
     in_epoch have e (record {
       epoch = have;

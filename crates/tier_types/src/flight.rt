@@ -42,7 +42,8 @@ pub enum Flight {
     },
     /// A write request is with the base.
     Write {
-        /// The call that waits for it; without one it is left, and the next call on the name takes it over.
+        /// The call that waits for it; without one it is left, and the next call on the name takes
+        /// it over.
         driver: Option<u64>,
         /// The call whose request it is.
         owner: u64,

@@ -3,7 +3,8 @@ use copy_chunk::{Chunk, Cursor};
 use obj_model::{Name, NameState, Reply, Req, Vector};
 use obj_ops::Looked;
 
-/// A message to the base. Each has the fencing epoch of the cache that sent it; each but Fence has the number of the
+/// A message to the base. Each has the fencing epoch of the cache that sent it; each but Fence has
+/// the number of the
 /// operation that it belongs to.
 #[derive(Debug, Drop)]
 pub enum BaseMsg {
@@ -53,7 +54,8 @@ pub enum BaseActed {
     Worn { limit: u64 },
 }
 
-/// A reply of the base, with the epoch and the operation's number of the message that it answers. It names no name.
+/// A reply of the base, with the epoch and the operation's number of the message that it answers.
+/// It names no name.
 #[derive(Debug, Drop)]
 pub enum BaseReply {
     /// The base holds this epoch.
@@ -84,7 +86,8 @@ pub enum BaseReply {
         opid: u64,
         seq: u64,
     },
-    /// The message's commit found no space: `used` and `need` together are above `limit`, in bytes. For a Fence the
+    /// The message's commit found no space: `used` and `need` together are above `limit`, in bytes.
+    /// For a Fence the
     /// operation's number is 0.
     NoSpace {
         epoch: u64,

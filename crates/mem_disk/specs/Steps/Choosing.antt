@@ -13,13 +13,16 @@ is_between start end i = nat_le start i && nat_lt i end
 pub record ChosenIn (pick : Pick) (test : ℕ → Bool) (stable old new : List ℕ) : Type 0 where
   pub size : length new ≡ length old
   pub bytes : (i : ℕ) → i < length old
-      → slice_index new i ≡ (if test i then chosen pick i (slice_index stable i) (slice_index old i) else slice_index old i)
+      → slice_index new i ≡ (if test i then chosen pick i (slice_index stable i) (slice_index old i)
+      else slice_index old i)
 
 -- where the test holds, the bytes are those of another list; the others stay
 pub record CopiedIn (test : ℕ → Bool) (from old new : List ℕ) : Type 0 where
   pub size : length new ≡ length old
-  pub bytes : (i : ℕ) → i < length old → slice_index new i ≡ (if test i then slice_index from i else slice_index old i)
+  pub bytes : (i : ℕ) → i < length old
+      → slice_index new i ≡ (if test i then slice_index from i else slice_index old i)
 
 -- below the least size and outside of the ranges what the disk reads as is settled
 abbrev pub SettledBelow : DiskMoment → Type 0
-SettledBelow d = (i : ℕ) → i < length d.content → is_unsettled d.touched d.low i ≡ false → slice_index d.content i ≡ slice_index d.stable i
+SettledBelow d = (i : ℕ) → i < length d.content → is_unsettled d.touched d.low i ≡ false
+    → slice_index d.content i ≡ slice_index d.stable i

@@ -6,7 +6,13 @@ use Rattle.mem_disk.specs.declared.state.State.{State}
 
 -- a state is a moment
 abbrev pub moment_of : State → DiskMoment
-moment_of s = record { content = s.content.items; stable = s.stable.items; touched = s.touched.items; low = s.low; high = s.high }
+moment_of s = record {
+  content = s.content.items;
+  stable = s.stable.items;
+  touched = s.touched.items;
+  low = s.low;
+  high = s.high;
+}
 
 -- the moments that are past, and now
 abbrev pub moments_of : List (Snapshot State) → State → List DiskMoment
