@@ -8,8 +8,8 @@ use std::test::Fail;
 use test_rows::{Row, name};
 
 // What an archive tells, line by line. `new COUNT PERIOD START` makes it; `touch NAME NOW` with
-// whether the name was in and whether a set was sealed; `met NAME WAS_IN RECENCY` and whether it is;
-// `warm NAME LAST DECAY` and the temperature.
+// whether the name was in and whether a set was sealed; `met NAME WAS_IN RECENCY` and whether it
+// is; `warm NAME LAST DECAY` and the temperature.
 const LINES: &str = "\
 new 2 10 0
 met a 0 0 1
