@@ -163,6 +163,12 @@ fn number(words: &[&str], at: usize) -> Result<u64, Fail> {
     Ok(word.parse::<u64>().ok().ok_or("a number")?)
 }
 
+// A number below 256 in decimal digits.
+fn small(words: &[&str], at: usize) -> Result<u8, Fail> {
+    let word = words.get(at).copied().unwrap_or("");
+    Ok(word.parse::<u8>().ok().ok_or("a small number")?)
+}
+
 // Sends a message to a live base.
 fn send(
     alloc: Global,
@@ -176,7 +182,7 @@ fn send(
         "fence" => Ok(base.serve(alloc, &BaseMsg::Fence { epoch })),
         "look" => look(alloc, base, epoch),
         "write" => write(alloc, base, epoch, number(words, 2)?),
-        "install" => install(alloc, base, epoch, number(words, 2)? as u8),
+        "install" => install(alloc, base, epoch, small(words, 2)?),
         "chunk" => {
             let message = BaseMsg::GetChunk {
                 epoch,
