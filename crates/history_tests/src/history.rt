@@ -1,9 +1,9 @@
 //! Pushes into a history, and what its entries weigh: 64, and the bytes that each carries.
 ghost use Rattle.std.specs.Prelude.{◌≤◌};
 
-use crate::tools::{bytes, name};
+use crate::tools::{bytes, name, object};
 use crate::values::outs;
-use obj_model::{NameState, Obj, PairMap, Reply, Req, SubOp, Vector};
+use obj_model::{NameState, Reply, Req, SubOp, Vector};
 use std::alloc::Global;
 use std::test::*;
 use tier_chron::{Act, Answer, First, History, Logged};
@@ -116,36 +116,32 @@ fn weights_of_answers(rt: HostRuntime) -> Result<(), Fail> {
     Ok(())
 }
 
-// A table of these keys, which stand apart by spaces, each with a value of 3 bytes.
-fn table(alloc: Global, keys: &str) -> Result<PairMap, Fail> {
-    let mut table = PairMap::new(alloc);
-    for key in keys.split(' ') {
-        table.insert(name(alloc, key)?, bytes(alloc, "vvv")?)?;
-    }
-    Ok(table)
-}
-
-// The opening of `n` at this version, with 10 bytes, an attribute of 4 and two entries of 5 and 6.
+// The opening of `n` at this version, with 3 bytes, an attribute of 3 and two entries of 3 and 4.
 fn opening(alloc: Global, ver: u64) -> Result<First, Fail> {
-    let body = bytes(alloc, "abcdefghij")?;
-    let attrs = table(alloc, "k")?;
-    let omap = table(alloc, "kk kkk")?;
+    let obj = Some(object(alloc)?);
+    let name = name(alloc, "n")?;
     let mut state = NameState::unknown(alloc);
     state.ver = ver;
-    state.obj = Some(Obj { body, attrs, omap });
-    let name = name(alloc, "n")?;
+    state.obj = obj;
     Ok(First { name, state })
+}
+
+// Pushes an act of these sub-operations with an opening of `n` at this version.
+fn push_opened(history: &mut History, alloc: Global, ver: u64, words: &str) -> Result<(), Fail> {
+    let first = opening(alloc, ver)?;
+    let act = act(alloc, words)?;
+    history.reserve(1)?;
+    history.push_act(Some(first), act);
+    Ok(())
 }
 
 // A history with an opening at version 7, two acts and an answer; the second opening of its name
 // counts for nothing.
 fn small_history(alloc: Global) -> Result<History, Fail> {
-    let (first, later) = (opening(alloc, 7)?, opening(alloc, 8)?);
-    let (one, two) = (act(alloc, "writefull")?, act(alloc, "omaprm")?);
     let mut history = History::new(alloc);
-    history.reserve(3)?;
-    history.push_act(Some(first), one);
-    history.push_act(Some(later), two);
+    push_opened(&mut history, alloc, 7, "writefull")?;
+    push_opened(&mut history, alloc, 8, "omaprm")?;
+    history.reserve(1)?;
     history.push_answer(logged(1, Answer::Clean));
     Ok(history)
 }
@@ -154,7 +150,7 @@ fn small_history(alloc: Global) -> Result<History, Fail> {
 fn openings_count_once(rt: HostRuntime) -> Result<(), Fail> {
     let history = small_history(rt.alloc())?;
     assert!(rt; history.entries() == 4);
-    assert!(rt; history.bytes() == 64 + 25 + 69 + 66 + 64);
+    assert!(rt; history.bytes() == 64 + 13 + 69 + 66 + 64);
     assert!(rt; history.acts().len() == 2 && history.answers().len() == 1);
     let n = name(rt.alloc(), "n")?;
     assert!(rt; matches!(history.opening_of(&n), Some(state) if state.ver == 7));

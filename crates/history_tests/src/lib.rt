@@ -5,6 +5,7 @@
 
 #[cfg(test)]
 mod answers;
+mod fitting;
 #[cfg(test)]
 mod history;
 #[cfg(test)]
@@ -15,3 +16,8 @@ mod summary;
 mod tools;
 #[cfg(test)]
 mod values;
+
+pub use fitting::{
+    blocked_has_no_act, fault_may_have_an_act, kept_tells_the_reply, own_act_at_its_place,
+    refused_is_not_done, stale_has_no_act, values_are_of_their_place,
+};

@@ -1,9 +1,7 @@
 //! Lines, acts and rows of both pools, written by hand. Many texts are put one behind another and
 //! compared as a whole.
-use crate::tools::{Row, bytes, name};
-use obj_model::{
-    Items, Kept, KeptList, Mode, NameState, Obj, PairMap, Path, Reply, Req, SubOp, Vector, Why,
-};
+use crate::tools::{Row, mode, name, object, why};
+use obj_model::{Items, Kept, KeptList, NameState, Obj, Path, Reply, Req, SubOp, Vector};
 use report_text::{Text, Told, answer_text, put_act, put_base_row, put_cache_row, put_call};
 use std::alloc::Global;
 use std::test::*;
@@ -70,13 +68,52 @@ fn paths_on_and_off(rt: HostRuntime) {
     assert!(rt; off.as_slice() == WITHOUT_PATHS.as_bytes());
 }
 
-const OF_GROUPS: &str = "6 clean ; absent ; clean hit
-7 mode proxy
-8 time 60
-9 stopped cache epoch 2 ; stopped cache epoch 9
-10 stopped base
-11 
-";
+// What a line is told that has no answer, by its words.
+fn other<'a>(words: &str) -> Told<'a> {
+    let mut row = Row::new(words);
+    match row.word() {
+        "mode" => Told::Mode {
+            mode: mode(row.word()),
+        },
+        "time" => Told::Time {
+            moment: row.number(),
+        },
+        "epoch" => Told::CacheStopped {
+            epoch: row.number(),
+        },
+        _ => Told::BaseStopped,
+    }
+}
+
+// Whether this is the line of number 9 that is told so, with paths.
+fn tells(alloc: Global, told: &[Told<'_>], want: &str) -> bool {
+    let mut text = Text::new(alloc);
+    line(&mut text, 9, told, true);
+    text.as_slice() == want.as_bytes()
+}
+
+#[test]
+fn lines_without_an_answer(rt: HostRuntime) {
+    let alloc = rt.alloc();
+    assert!(rt; tells(alloc, &[other("mode proxy")], "9 mode proxy\n"));
+    assert!(rt; tells(alloc, &[other("time 60")], "9 time 60\n"));
+    assert!(rt; tells(alloc, &[other("base")], "9 stopped base\n"));
+    assert!(rt; tells(alloc, &[other("epoch 2")], "9 stopped cache epoch 2\n"));
+}
+
+// The same of a line that two groups answer.
+fn both_tell<'a>(alloc: Global, first: Told<'a>, second: Told<'a>, want: &str) -> bool {
+    tells(alloc, &[first, second], want)
+}
+
+#[test]
+fn lines_of_many_groups(rt: HostRuntime) {
+    let alloc = rt.alloc();
+    let (first, second) = (other("epoch 2"), other("epoch 30"));
+    let text = "9 stopped cache epoch 2 ; stopped cache epoch 30\n";
+    assert!(rt; both_tell(alloc, first, second, text));
+    assert!(rt; tells(alloc, &[], "9 \n"));
+}
 
 // An answer at place 7.
 fn told<'a>(answer: &'a Answer, path: Option<Path>) -> Told<'a> {
@@ -88,25 +125,11 @@ fn told<'a>(answer: &'a Answer, path: Option<Path>) -> Told<'a> {
 }
 
 #[test]
-fn lines_of_groups(rt: HostRuntime) {
-    let (clean, absent) = (Answer::Clean, Answer::Absent);
-    let all = [
-        told(&clean, None),
-        told(&absent, None),
-        told(&clean, Some(Path::Hit)),
-    ];
-    let stopped = [
-        Told::CacheStopped { epoch: 2 },
-        Told::CacheStopped { epoch: 9 },
-    ];
-    let mut text = Text::new(rt.alloc());
-    line(&mut text, 6, &all, true);
-    line(&mut text, 7, &[Told::Mode { mode: Mode::Proxy }], true);
-    line(&mut text, 8, &[Told::Time { moment: 60 }], false);
-    line(&mut text, 9, &stopped, true);
-    line(&mut text, 10, &[Told::BaseStopped], true);
-    line(&mut text, 11, &[], true);
-    assert!(rt; text.as_slice() == OF_GROUPS.as_bytes());
+fn answers_of_many_groups(rt: HostRuntime) {
+    let clean = Answer::Clean;
+    let absent = Answer::Absent;
+    let (first, second) = (told(&clean, Some(Path::Hit)), told(&absent, None));
+    assert!(rt; both_tell(rt.alloc(), first, second, "9 clean hit ; absent\n"));
 }
 
 #[test]
@@ -137,42 +160,32 @@ fn act(alloc: Global, tid: u64, reply: Reply) -> Result<Act, Fail> {
 }
 
 const ACTS: &str = "act 0 1 12 8 a done v4
-act 3 2 12 9 a refused 2 noent v4
-act 15 3 12 10 a refused 0 toobig 64 65 v5
+act 1 2 12 9 a refused 2 noent v4
+act 15 3 12 10 a refused 0 toobig 4096 4097 v5
 ";
+
+// Puts an act of client 12 on the name `a` with this reply.
+fn put_one(text: &mut Text, alloc: Global, group: u32, tid: u64, reply: Reply) -> Result<(), Fail> {
+    let act = act(alloc, tid, reply)?;
+    put_act(text, group, tid.saturating_sub(7), &act)?;
+    Ok(())
+}
+
+// A refusal.
+fn refused(at: u8, word: &str, ver: u64) -> Reply {
+    let why = why(word);
+    Reply::Refused { at, why, ver }
+}
 
 #[test]
 fn acts_of_a_history(rt: HostRuntime) -> Result<(), Fail> {
     let alloc = rt.alloc();
     let mut text = Text::new(alloc);
-    put_act(&mut text, 0, 1, &act(alloc, 8, Reply::Done { ver: 4 })?)?;
-    let (at, why, ver) = (2, Why::NoEnt, 4);
-    put_act(&mut text, 3, 2, &act(alloc, 9, Reply::Refused { at, why, ver })?)?;
-    let why = Why::TooBig {
-        limit: 64,
-        asked: 65,
-    };
-    let (at, ver) = (0, 5);
-    put_act(&mut text, 15, 3, &act(alloc, 10, Reply::Refused { at, why, ver })?)?;
+    put_one(&mut text, alloc, 0, 8, Reply::Done { ver: 4 })?;
+    put_one(&mut text, alloc, 1, 9, refused(2, "noent", 4))?;
+    put_one(&mut text, alloc, 15, 10, refused(0, "toobig", 5))?;
     assert!(rt; text.as_slice() == ACTS.as_bytes());
     Ok(())
-}
-
-// A table of these keys, a byte each, with the value `v`.
-fn table(alloc: Global, keys: &str) -> Result<PairMap, Fail> {
-    let mut table = PairMap::new(alloc);
-    for key in keys.split(' ') {
-        table.insert(name(alloc, key)?, bytes(alloc, "v")?)?;
-    }
-    Ok(table)
-}
-
-// An object of 3 bytes, an attribute and two entries.
-fn object(alloc: Global) -> Result<Obj, Fail> {
-    let body = bytes(alloc, "abc")?;
-    let attrs = table(alloc, "k")?;
-    let omap = table(alloc, "k l")?;
-    Ok(Obj { body, attrs, omap })
 }
 
 // Three kept requests.
@@ -200,22 +213,26 @@ fn state(alloc: Global, obj: Option<Obj>) -> Result<NameState, Fail> {
 }
 
 const ROWS: &str = "cache 0 a dirty v2 q5 bytes 3 attrs 1 omap 2 ids 3
-cache 15 a clean v2 q5 gone ids 3
-base 1 a v2 q5 bytes 3 attrs 1 omap 2 ids 3
-base 2 a v0 q0 gone ids 0
+base 15 a v2 q5 bytes 3 attrs 1 omap 2 ids 3
+cache 0 a clean v2 q5 gone ids 3
+base 15 a v2 q5 gone ids 3
 ";
+
+// Puts a state's rows in the cache, dirty or clean, and in the base.
+fn put_rows(text: &mut Text, alloc: Global, dirty: bool, obj: Option<Obj>) -> Result<(), Fail> {
+    let state = state(alloc, obj)?;
+    let name = name(alloc, "a")?;
+    put_cache_row(text, 0, &name, dirty, &state)?;
+    put_base_row(text, 15, &name, &state)?;
+    Ok(())
+}
 
 #[test]
 fn rows_of_both_pools(rt: HostRuntime) -> Result<(), Fail> {
     let alloc = rt.alloc();
     let mut text = Text::new(alloc);
-    let a = name(alloc, "a")?;
-    let there = state(alloc, Some(object(alloc)?))?;
-    let gone = state(alloc, None)?;
-    put_cache_row(&mut text, 0, &a, true, &there)?;
-    put_cache_row(&mut text, 15, &a, false, &gone)?;
-    put_base_row(&mut text, 1, &a, &there)?;
-    put_base_row(&mut text, 2, &a, &NameState::unknown(alloc))?;
+    put_rows(&mut text, alloc, true, Some(object(alloc)?))?;
+    put_rows(&mut text, alloc, false, None)?;
     assert!(rt; text.as_slice() == ROWS.as_bytes());
     Ok(())
 }

@@ -1,5 +1,5 @@
-//! What the tables share: rows as texts, whose words stand apart by single spaces, and small values.
-use obj_model::{Bytes, Kind, Mode, Name, Pool, Why};
+//! What the tables share: rows as texts, whose words stand apart by single spaces; small values.
+use obj_model::{Bytes, Kind, Mode, Name, Obj, PairMap, Pool, Why};
 use report_text::{Text, put_answer};
 use std::alloc::Global;
 use std::test::Fail;
@@ -44,6 +44,23 @@ pub fn name(alloc: Global, word: &str) -> Result<Name, Fail> {
 /// These bytes.
 pub fn bytes(alloc: Global, word: &str) -> Result<Bytes, Fail> {
     Ok(Bytes::from_vec(Vec::from_slice(alloc, word.as_bytes())?))
+}
+
+// A table of these keys, each with a value of 2 bytes.
+fn table(alloc: Global, keys: &str) -> Result<PairMap, Fail> {
+    let mut table = PairMap::new(alloc);
+    for key in keys.split(' ') {
+        table.insert(name(alloc, key)?, bytes(alloc, "vw")?)?;
+    }
+    Ok(table)
+}
+
+/// An object of 3 bytes, with an attribute of 3 and two entries of 3 and 4, keys and all.
+pub fn object(alloc: Global) -> Result<Obj, Fail> {
+    let body = bytes(alloc, "abc")?;
+    let attrs = table(alloc, "k")?;
+    let omap = table(alloc, "k ll")?;
+    Ok(Obj { body, attrs, omap })
 }
 
 /// A pool by its word.
