@@ -31,7 +31,15 @@ on way place x =
 module _ (start : Store) (name : List ℕ) (pool : Pool) (outs : List Out) where
   flushed_fits : Fits start [] (Flush name true false) (at 0 (answer.Flushed 2))
   flushed_fits =
-    record { kind = refl; numbers = tt; way = refl; single = tt; own = tt; beside = tt; told = tt }
+      record {
+        kind = refl;
+        numbers = tt;
+        way = refl;
+        single = tt;
+        own = tt;
+        beside = tt;
+        told = tt;
+      }
 
   done_flush : Fits start [] (Flush name true false) (hit 0 (answer.Done 2 false)) → ⊥
   done_flush h = let no = h.kind in absurd (cc)
@@ -44,42 +52,90 @@ module _ (start : Store) (name : List ℕ) (pool : Pool) (outs : List Out) where
 
   begun_fits : Fits start [] (Flush name true true) (at 0 (answer.Begun 2))
   begun_fits =
-    record { kind = refl; numbers = tt; way = refl; single = tt; own = tt; beside = tt; told = tt }
+      record {
+        kind = refl;
+        numbers = tt;
+        way = refl;
+        single = tt;
+        own = tt;
+        beside = tt;
+        told = tt;
+      }
 
   flushed_begin : Fits start [] (Flush name true true) (at 0 (answer.Flushed 2)) → ⊥
   flushed_begin h = let no = h.kind in absurd (cc)
 
   finish_fits : Fits start [] (Finish name) (at 0 answer.NoBegun)
   finish_fits =
-    record { kind = refl; numbers = tt; way = refl; single = tt; own = tt; beside = tt; told = tt }
+      record {
+        kind = refl;
+        numbers = tt;
+        way = refl;
+        single = tt;
+        own = tt;
+        beside = tt;
+        told = tt;
+      }
 
   absent_finish : Fits start [] (Finish name) (at 0 answer.Absent) → ⊥
   absent_finish h = let no = h.kind in absurd (cc)
 
   evicted_fits : Fits start [] (Evict name) (at 0 (answer.Evicted 2))
   evicted_fits =
-    record { kind = refl; numbers = tt; way = refl; single = tt; own = tt; beside = tt; told = tt }
+      record {
+        kind = refl;
+        numbers = tt;
+        way = refl;
+        single = tt;
+        own = tt;
+        beside = tt;
+        told = tt;
+      }
 
   flushed_evict : Fits start [] (Evict name) (at 0 (answer.Flushed 2)) → ⊥
   flushed_evict h = let no = h.kind in absurd (cc)
 
   drained_fits : Fits start [] Drain (at 0 answer.Drained)
   drained_fits =
-    record { kind = refl; numbers = tt; way = refl; single = tt; own = tt; beside = tt; told = tt }
+      record {
+        kind = refl;
+        numbers = tt;
+        way = refl;
+        single = tt;
+        own = tt;
+        beside = tt;
+        told = tt;
+      }
 
   clean_drain : Fits start [] Drain (at 0 answer.Clean) → ⊥
   clean_drain h = let no = h.kind in absurd (cc)
 
   turn_fits : Fits start [] Agent (at 0 (answer.Agent did.Nothing))
   turn_fits =
-    record { kind = refl; numbers = tt; way = refl; single = tt; own = tt; beside = tt; told = tt }
+      record {
+        kind = refl;
+        numbers = tt;
+        way = refl;
+        single = tt;
+        own = tt;
+        beside = tt;
+        told = tt;
+      }
 
   evicted_turn : Fits start [] Agent (at 0 (answer.Evicted 2)) → ⊥
   evicted_turn h = let no = h.kind in absurd (cc)
 
   faulting_start_fits : Fits start [] Start (at 0 (answer.DiskFault pool))
   faulting_start_fits =
-    record { kind = refl; numbers = tt; way = refl; single = tt; own = tt; beside = tt; told = tt }
+      record {
+        kind = refl;
+        numbers = tt;
+        way = refl;
+        single = tt;
+        own = tt;
+        beside = tt;
+        told = tt;
+      }
 
   clean_start : Fits start [] Start (at 0 answer.Clean) → ⊥
   clean_start h = let no = h.kind in absurd (cc)

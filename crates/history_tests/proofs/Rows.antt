@@ -41,8 +41,8 @@ refused = record {
     told = tt;
   };
   done = λ start req why h.
-    let no : reply.Refused 2 why 0 ≡ reply.Done 0 = ap (reply_in (reply.Done 0)) h.beside
-    in absurd (cc);
+      let no : reply.Refused 2 why 0 ≡ reply.Done 0 = ap (reply_in (reply.Done 0)) h.beside
+      in absurd (cc);
 }
 
 kept : KeptTellsTheReply

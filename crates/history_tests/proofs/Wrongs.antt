@@ -95,13 +95,13 @@ an_answer_to_no_call acts l h = h
 an_answer_without_a_line :
     (acts : List Act) (l : Logged) (begin : ℕ) (asked : Asked)
     → IsAnswered acts l (Some
-        (record { number = l.call; line = None; begin = begin; asked = asked })) → ⊥
+    (record { number = l.call; line = None; begin = begin; asked = asked })) → ⊥
 an_answer_without_a_line acts l begin asked h = let no = h.line in absurd (cc)
 
 another_begin :
     (acts : List Act) (l : Logged) (asked : Asked) → l.begin ≡ 4
     → IsAnswered acts l (Some
-        (record { number = l.call; line = Some l.line; begin = 3; asked = asked })) → ⊥
+    (record { number = l.call; line = Some l.line; begin = 3; asked = asked })) → ⊥
 another_begin acts l asked e h = absurd (omega (arith, h.begin, e))
 
 -- an opening with another state than its name had at first
@@ -115,7 +115,7 @@ a_later_opening start f a t is other h = other (h.first.0 ∙ is)
 an_act_of_another_line :
     (a : Act) (begin : ℕ) → a.line ≡ 4
     → IsAskedBy a (Some
-        (record { number = a.call; line = Some 3; begin = begin; asked = Write a.req })) → ⊥
+    (record { number = a.call; line = Some 3; begin = begin; asked = Write a.req })) → ⊥
 an_act_of_another_line a begin e h = absurd (omega (arith, e, ap line_in h.1))
 
 -- two calls under one number, and a call that begins before an earlier one

@@ -44,6 +44,10 @@ hit place x =
 abbrev pub act_of : ℕ → Req → Reply → Act
 act_of call req given = record { call = call; line = 3; req = req; reply = given }
 
+-- one act of this call, and no other
+abbrev pub alone : ℕ → Req → List Act
+alone call req = act_of call req (reply.Done 1) ∷ []
+
 -- the act of call 7 between acts of two other calls
 abbrev pub three : Req → List Act
 three req =
@@ -52,13 +56,13 @@ three req =
 -- a reply of its own fits at its act's number, and not one place earlier or later
 pub record OwnActAtItsPlace : Type 0 where
   pub there :
-    (start : Store) (req : Req) → Fits start (three req) (Write req) (hit 2 (answer.Done 5 false))
+      (start : Store) (req : Req) → Fits start (three req) (Write req) (hit 2 (answer.Done 5 false))
   pub early :
-    (start : Store) (req : Req)
-    → Fits start (three req) (Write req) (hit 1 (answer.Done 5 false)) → ⊥
+      (start : Store) (req : Req)
+      → Fits start (three req) (Write req) (hit 1 (answer.Done 5 false)) → ⊥
   pub late :
-    (start : Store) (req : Req)
-    → Fits start (three req) (Write req) (hit 3 (answer.Done 5 false)) → ⊥
+      (start : Store) (req : Req)
+      → Fits start (three req) (Write req) (hit 3 (answer.Done 5 false)) → ⊥
 
 -- the act of a refused request of call 7
 abbrev pub refusal : Req → Why → List Act
@@ -67,69 +71,69 @@ refusal req why = act_of 7 req (reply.Refused 2 why 0) ∷ []
 -- a refusal fits its act, and being done does not
 pub record RefusedIsNotDone : Type 0 where
   pub refused :
-    (start : Store) (req : Req) (why : Why)
-    → Fits start (refusal req why) (Write req) (hit 1 (answer.Refused 2 why 0 false))
+      (start : Store) (req : Req) (why : Why)
+      → Fits start (refusal req why) (Write req) (hit 1 (answer.Refused 2 why 0 false))
   pub done :
-    (start : Store) (req : Req) (why : Why)
-    → Fits start (refusal req why) (Write req) (hit 1 (answer.Done 0 false)) → ⊥
+      (start : Store) (req : Req) (why : Why)
+      → Fits start (refusal req why) (Write req) (hit 1 (answer.Done 0 false)) → ⊥
 
 -- a kept reply fits where the plain store answers again, and only with the reply that it kept
 pub record KeptTellsTheReply : Type 0 where
   pub same :
-    (start : Store) (req : Req) → act (state_of start req.name) req ≡ acted.Again (reply.Done 1)
-    → Fits start [] (Write req) (hit 0 (answer.Done 1 true))
+      (start : Store) (req : Req) → act (state_of start req.name) req ≡ acted.Again (reply.Done 1)
+      → Fits start [] (Write req) (hit 0 (answer.Done 1 true))
   pub other :
-    (start : Store) (req : Req) → act (state_of start req.name) req ≡ acted.Again (reply.Done 1)
-    → Fits start [] (Write req) (hit 0 (answer.Done 2 true)) → ⊥
+      (start : Store) (req : Req) → act (state_of start req.name) req ≡ acted.Again (reply.Done 1)
+      → Fits start [] (Write req) (hit 0 (answer.Done 2 true)) → ⊥
   pub fresh :
-    (start : Store) (req : Req) (t : NameState)
-    → act (state_of start req.name) req ≡ acted.Fresh t (reply.Done 1)
-    → Fits start [] (Write req) (hit 0 (answer.Done 1 true)) → ⊥
+      (start : Store) (req : Req) (t : NameState)
+      → act (state_of start req.name) req ≡ acted.Fresh t (reply.Done 1)
+      → Fits start [] (Write req) (hit 0 (answer.Done 1 true)) → ⊥
 
 -- a late request is told the number that acted, and has no act
 pub record StaleHasNoAct : Type 0 where
   pub told :
-    (start : Store) (req : Req) → act (state_of start req.name) req ≡ acted.Stale 5
-    → Fits start [] (Write req) (hit 0 (answer.Stale 5))
+      (start : Store) (req : Req) → act (state_of start req.name) req ≡ acted.Stale 5
+      → Fits start [] (Write req) (hit 0 (answer.Stale 5))
   pub other :
-    (start : Store) (req : Req) → act (state_of start req.name) req ≡ acted.Stale 5
-    → Fits start [] (Write req) (hit 0 (answer.Stale 6)) → ⊥
+      (start : Store) (req : Req) → act (state_of start req.name) req ≡ acted.Stale 5
+      → Fits start [] (Write req) (hit 0 (answer.Stale 6)) → ⊥
   pub own :
-    (start : Store) (req : Req)
-    → Fits start (act_of 7 req (reply.Done 1) ∷ []) (Write req) (hit 1 (answer.Stale 5)) → ⊥
+      (start : Store) (req : Req)
+      → Fits start (alone 7 req) (Write req) (hit 1 (answer.Stale 5)) → ⊥
 
 -- behind an act of another call a reading tells the store that the act left
 pub record ValuesAreOfTheirPlace : Type 0 where
   pub behind :
-    (start : Store) (r : Req) (name : List ℕ) (ops : List SubOp) (outs : List Out)
-    → look (state_of (behind_one start r) name) ops ≡ looked.Values 2 outs
-    → Fits start (act_of 8 r (reply.Done 2) ∷ []) (Read 1 name ops) (hit 1 (answer.Values 2 outs))
+      (start : Store) (r : Req) (name : List ℕ) (ops : List SubOp) (outs : List Out)
+      → look (state_of (behind_one start r) name) ops ≡ looked.Values 2 outs
+      → Fits start (act_of 8 r (reply.Done 2) ∷ []) (Read 1 name ops) (hit 1 (answer.Values 2 outs))
   pub before :
-    (start : Store) (r : Req) (name : List ℕ) (ops : List SubOp) (outs : List Out)
-    → look (state_of (behind_one start r) name) ops ≡ looked.Values 2 outs
-    → Fits start (act_of 8 r (reply.Done 2) ∷ []) (Read 1 name ops) (hit 1 (answer.Values 1 outs))
-    → ⊥
+      (start : Store) (r : Req) (name : List ℕ) (ops : List SubOp) (outs : List Out)
+      → look (state_of (behind_one start r) name) ops ≡ looked.Values 2 outs
+      → Fits start (act_of 8 r (reply.Done 2) ∷ []) (Read 1 name ops) (hit 1 (answer.Values 1 outs))
+      → ⊥
 
 -- a fault fits with one act of its call or with none, and not with two
 pub record FaultMayHaveAnAct : Type 0 where
   pub none :
-    (start : Store) (req : Req) (pool : Pool)
-    → Fits start [] (Write req) (at 0 (answer.DiskFault pool))
+      (start : Store) (req : Req) (pool : Pool)
+      → Fits start [] (Write req) (at 0 (answer.DiskFault pool))
   pub one :
-    (start : Store) (req : Req) (pool : Pool)
-    → Fits start (act_of 7 req (reply.Done 1) ∷ []) (Write req) (at 0 (answer.DiskFault pool))
+      (start : Store) (req : Req) (pool : Pool)
+      → Fits start (alone 7 req) (Write req) (at 0 (answer.DiskFault pool))
   pub two :
-    (start : Store) (req : Req) (pool : Pool)
-    → Fits start (act_of 7 req (reply.Done 1) ∷ act_of 7 req (reply.Done 2) ∷ []) (Write req)
-        (at 0 (answer.DiskFault pool))
-    → ⊥
+      (start : Store) (req : Req) (pool : Pool)
+      → Fits start (act_of 7 req (reply.Done 1) ∷ act_of 7 req (reply.Done 2) ∷ []) (Write req)
+      (at 0 (answer.DiskFault pool))
+      → ⊥
 
 -- a call that was turned away has no act, though others have
 pub record BlockedHasNoAct : Type 0 where
   pub other :
-    (start : Store) (req : Req)
-    → Fits start (act_of 8 req (reply.Done 1) ∷ []) (Write req) (at 0 (answer.Blocked kind.Flush 4))
+      (start : Store) (req : Req)
+      → Fits start (alone 8 req) (Write req) (at 0 (answer.Blocked kind.Flush 4))
   pub own :
-    (start : Store) (req : Req)
-    → Fits start (act_of 7 req (reply.Done 1) ∷ []) (Write req) (at 0 (answer.Blocked kind.Flush 4))
-    → ⊥
+      (start : Store) (req : Req)
+      → Fits start (alone 7 req) (Write req) (at 0 (answer.Blocked kind.Flush 4))
+      → ⊥

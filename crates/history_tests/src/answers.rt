@@ -1,5 +1,5 @@
-//! The texts of answers, written by hand. A row is a text whose words say which answer has it; where
-//! they do not stand apart, the answer's words come before an arrow.
+//! The texts of answers, written by hand. A row is a text whose words say which answer has it; of a
+//! refusal these come apart, before an arrow.
 use crate::tools::{Row, kind, mode, name, pool, says, why};
 use obj_model::Name;
 use std::alloc::Global;

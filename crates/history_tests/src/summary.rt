@@ -10,7 +10,8 @@ use std::test::*;
 use tier_chron::Answer;
 
 // An answer and its count, and the summary of a run in which it was the only one.
-const CLASSES: &str = "done => lines 1 done 1 refused 0 values 0 kept 0 stale 0 blocked 0 full 0 other 0
+const CLASSES: &str =
+    "done => lines 1 done 1 refused 0 values 0 kept 0 stale 0 blocked 0 full 0 other 0
 refused => lines 1 done 0 refused 1 values 0 kept 0 stale 0 blocked 0 full 0 other 0
 values => lines 1 done 0 refused 0 values 1 kept 0 stale 0 blocked 0 full 0 other 0
 done kept => lines 1 done 0 refused 0 values 0 kept 1 stale 0 blocked 0 full 0 other 0

@@ -81,7 +81,10 @@ fn values_of_every_kind(rt: HostRuntime) -> Result<(), Fail> {
     for row in VALUES.lines() {
         let (words, text) = row.split_once(" => ").ok_or("a row")?;
         let outs = outs(rt.alloc(), words)?;
-        assert!(rt; says(rt.alloc(), &Answer::Values { ver: 2, outs }, text), "{text}");
+        assert!(rt;
+            says(rt.alloc(), &Answer::Values { ver: 2, outs }, text),
+            "{text}"
+        );
     }
     Ok(())
 }
