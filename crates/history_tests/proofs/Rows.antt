@@ -1,5 +1,5 @@
 -- Rows of what fits: a small history that fits, and one that does not.
-use Rattle.std.proofs.Common.{◌≡◌, ℕ, true, false, List, [], ◌∷◌, Option, Some, None, refl, ap, arith}
+use Rattle.std.proofs.Common.{◌≡◌, ℕ, Option, Some, None, refl, ap, arith}
 use Rattle.obj_model.specs.declared.reply.Reply.{Reply}
 use Rattle.obj_model.specs.declared.reply.Reply.TheVariants as reply
 use Rattle.tier_chron.specs.declared.entries.Act.{Act}
@@ -14,7 +14,7 @@ abbrev pub reply_in : Reply → Option Act → Reply
 reply_in given None = given
 reply_in given (Some a) = a.reply
 
-own_act : OwnActAtItsPlace
+pub own_act : OwnActAtItsPlace
 own_act = record {
   there = λ start req. record {
     kind = refl;
@@ -29,7 +29,7 @@ own_act = record {
   late = λ start req h. absurd (omega (arith, ap call_in h.beside));
 }
 
-refused : RefusedIsNotDone
+pub refused : RefusedIsNotDone
 refused = record {
   refused = λ start req why. record {
     kind = refl;
@@ -45,7 +45,7 @@ refused = record {
       in absurd (cc);
 }
 
-kept : KeptTellsTheReply
+pub kept : KeptTellsTheReply
 kept = record {
   same = λ start req again. record {
     kind = refl;
@@ -60,7 +60,7 @@ kept = record {
   fresh = λ start req t acts h. let no = h.told.again in absurd (cc);
 }
 
-stale : StaleHasNoAct
+pub stale : StaleHasNoAct
 stale = record {
   told = λ start req late. record {
     kind = refl;
@@ -75,7 +75,7 @@ stale = record {
   own = λ start req h. h.told.none.0 refl;
 }
 
-values : ValuesAreOfTheirPlace
+pub values : ValuesAreOfTheirPlace
 values = record {
   behind = λ start r name ops outs seen. record {
     kind = refl;
@@ -89,7 +89,7 @@ values = record {
   before = λ start r name ops outs seen h. let no = h.told in absurd (cc);
 }
 
-fault : FaultMayHaveAnAct
+pub fault : FaultMayHaveAnAct
 fault = record {
   none = λ start req pool. record {
     kind = refl;
@@ -112,7 +112,7 @@ fault = record {
   two = λ start req pool h. (h.single.0 refl).0 refl;
 }
 
-blocked : BlockedHasNoAct
+pub blocked : BlockedHasNoAct
 blocked = record {
   other = λ start req. record {
     kind = refl;

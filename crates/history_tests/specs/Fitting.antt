@@ -18,7 +18,6 @@ use Rattle.tier_chron.specs.Fits.{Fits}
 use Rattle.tier_chron.specs.Places.{behind_one}
 use Rattle.tier_chron.specs.declared.answer.Answer.{Answer}
 use Rattle.tier_chron.specs.declared.answer.Answer.TheVariants as answer
-use Rattle.tier_chron.specs.declared.asked.Asked.{Asked}
 use Rattle.tier_chron.specs.declared.asked.Asked.TheVariants.{Write, Read}
 use Rattle.tier_chron.specs.declared.entries.Act.{Act}
 use Rattle.tier_chron.specs.declared.entries.Logged.{Logged}

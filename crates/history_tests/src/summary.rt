@@ -90,6 +90,13 @@ fn sums_up(alloc: Global, counts: &Counts, want: &str) -> bool
         && text.as_slice() == wanted.as_slice()
 }
 
+// The counts of a line of one group.
+fn noted_one(told: Told<'_>) -> Counts
+    ensures { lines_of result ≡ 1 }
+{
+    noted(&[told])
+}
+
 // What one group answered.
 fn told<'a>(answer: &'a Answer) -> Told<'a> {
     Told::Answered {
@@ -104,7 +111,7 @@ fn how_each_answer_counts(rt: HostRuntime) -> Result<(), Fail> {
     for row in CLASSES.lines() {
         let (words, text) = row.split_once(" => ").ok_or("a row")?;
         let answer = answer(rt.alloc(), words);
-        let counts = noted(&[told(&answer)]);
+        let counts = noted_one(told(&answer));
         assert!(rt; sums_up(rt.alloc(), &counts, text), "{words}");
     }
     Ok(())
@@ -117,7 +124,7 @@ fn lines_of_groups_are_others(rt: HostRuntime) {
     let done = reply("done");
     let both = noted_both(told(&done), Told::BaseStopped);
     assert!(rt; sums_up(rt.alloc(), &both, OTHER));
-    let mode = noted(&[Told::Mode { mode: Mode::Proxy }]);
+    let mode = noted_one(Told::Mode { mode: Mode::Proxy });
     assert!(rt; sums_up(rt.alloc(), &mode, OTHER));
 }
 

@@ -1,5 +1,5 @@
 -- What no call is ever answered: kinds, numbers and ways that do not go with what was asked.
-use Rattle.std.proofs.Common.{◌≡◌, ℕ, ◌^◌, true, false, List, [], ◌∷◌, Some, None, refl, arith}
+use Rattle.std.proofs.Common.{◌≡◌, ℕ, ◌^◌, true, false, List, [], ◌∷◌, Some, refl, arith}
 use Rattle.obj_model.specs.declared.change.Pool.{Pool}
 use Rattle.obj_model.specs.declared.out.Out.{Out}
 use Rattle.obj_model.specs.declared.reply.Reply.TheVariants as reply
