@@ -1,5 +1,5 @@
 -- The calls of a group, and the work that they began.
-use Rattle.std.specs.Prelude.{◌≡◌, ℕ, Bool, false, ◌==◌, List, Option, Some, None}
+use Rattle.std.specs.Prelude.{◌≡◌, ℕ, false, ◌==◌, List, Option, Some, None}
 use Rattle.std.specs.List.{find}
 use Rattle.tier_chron.specs.Calls.{Call}
 pub use Rattle.tier_view.specs.declared.parts.Entry.{Entry}

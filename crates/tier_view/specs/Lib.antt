@@ -4,3 +4,8 @@ pub mod Traffic
 pub mod Standing
 pub mod Agents
 pub mod Views
+pub mod Worlds
+pub mod Tables
+pub mod Whole
+pub mod Grows
+pub mod Codes

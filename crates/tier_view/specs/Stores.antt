@@ -1,7 +1,7 @@
 -- The two stores of a group.
-use Rattle.std.specs.Prelude.{ℕ, Bool, Option, Some, None}
+use Rattle.std.specs.Prelude.{Bool, Option}
 use Rattle.store_face.specs.Views.{StoreView}
-use Rattle.tier_join.specs.Group.{Doubt}
+use Rattle.tier_join.specs.declared.doubt.Doubt.{Doubt}
 pub use Rattle.tier_view.specs.declared.parts.Pending.{Pending}
 
 -- Two stores, whether either pool was stopped since its store was opened last, and the one commit

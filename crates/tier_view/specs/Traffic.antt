@@ -1,5 +1,5 @@
 -- What is between the pools: unfinished work, messages and replies.
-use Rattle.std.specs.Prelude.{◌≡◌, ℕ, List, [], ◌∷◌, map, Option, Some, None}
+use Rattle.std.specs.Prelude.{ℕ, List, [], ◌∷◌, map, Option, Some}
 use Rattle.tier_protocol.specs.Owners.{Owned}
 use Rattle.tier_protocol.specs.Tiers.{BaseMsg, BaseReply, Flights}
 pub use Rattle.tier_view.specs.declared.parts.Awaited.{Awaited}

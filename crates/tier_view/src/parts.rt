@@ -9,7 +9,10 @@ use tier_types::{BaseMsg, BaseReply};
 #[derive(Debug, Drop)]
 pub enum Pending {
     /// What the commit changes of this name is the same to memory.
-    Plain { pool: Pool, name: Name },
+    Plain {
+        pool: Pool,
+        name: Name,
+    },
     /// This act, with the opening that goes with it; it leaves its name with this `seq`.
     Act {
         pool: Pool,
@@ -18,7 +21,10 @@ pub enum Pending {
         seq: u64,
     },
     /// The pool is at this epoch.
-    Epoch { pool: Pool, epoch: u64 },
+    Epoch {
+        pool: Pool,
+        epoch: u64,
+    },
 }
 
 /// A call: its number, its line, what it asked, the epoch of its first step, and how many acts
