@@ -15,6 +15,7 @@ use Rattle.tier_join.specs.Promises.{Promises}
 use Rattle.tier_view.specs.Calls.{Calls, Entry, Flown, entry_of}
 use Rattle.tier_view.specs.Standing.{Standing}
 use Rattle.tier_view.specs.Stores.{Stores}
+use Rattle.tier_view.specs.Tables.{goes_without}
 use Rattle.tier_view.specs.Views.{GroupView, joined}
 use Rattle.tier_view.specs.Worlds.{Began}
 
@@ -55,12 +56,13 @@ pub record Stays (old new : Entry) : Type 0 where
   pub ended : old.ended ≡ true → new.ended ≡ true
 
 -- A new entry is of the next number, of the present epoch and number of acts, and of the line and
--- the request that are wanted.
+-- the request that are wanted. A client's request has a line.
 pub record IsNew (next now count : ℕ) (what : Option Wanted) (e : Entry) : Type 0 where
   pub number : e.number ≡ next
   pub epoch : e.epoch ≡ now
   pub begin : e.begin ≡ count
   pub wanted : what ≡ Some (record { line = e.line; asked = e.asked })
+  pub lined : e.line ≡ None → goes_without e.asked ≡ true
 
 -- one list is the other, changed entry by entry, with some more that are so
 abbrev pub Extends : {X : Type 0} → (X → X → Type 0) → (List X → Type 0) → List X → List X

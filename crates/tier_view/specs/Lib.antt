@@ -9,3 +9,4 @@ pub mod Tables
 pub mod Whole
 pub mod Grows
 pub mod Codes
+pub mod Owed

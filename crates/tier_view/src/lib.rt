@@ -9,8 +9,10 @@
 //! do nothing: their contracts are the laws.
 #![tactic(auto)]
 
+mod general;
 mod parts;
 
+pub use general::{steps_keep, whole_is_group};
 pub use parts::{
     Awaited, Begun, Entry, FirstBusy, Flown, KeptFence, Noted, Owner, Pending, Replied, Sent,
 };
