@@ -1,2 +1,6 @@
 pub mod Growth
 pub mod Keeping
+pub mod Owning
+pub mod Entering
+pub mod Resting
+pub mod Opening

@@ -133,9 +133,9 @@ IsTouched old new = ((changes : List Change) × Between changes old new) ⊎ Amo
 
 -- a step commits once at most, in one pool, and opens one store at most
 pub data OneCommit (old new : Stores) : Type 0 where
-  none : Rests old.cache new.cache → Rests old.base new.base → OneCommit old new
-  cache : IsTouched old.cache new.cache → Rests old.base new.base → OneCommit old new
-  base : Rests old.cache new.cache → IsTouched old.base new.base → OneCommit old new
+  no_commit : Rests old.cache new.cache → Rests old.base new.base → OneCommit old new
+  in_cache : IsTouched old.cache new.cache → Rests old.base new.base → OneCommit old new
+  in_base : Rests old.cache new.cache → IsTouched old.base new.base → OneCommit old new
 
 -- ---- all of it
 

@@ -10,3 +10,5 @@ pub mod Whole
 pub mod Grows
 pub mod Codes
 pub mod Owed
+pub mod Steps
+pub mod Laws

@@ -11,8 +11,10 @@
 
 mod general;
 mod parts;
+mod slice;
 
 pub use general::{steps_keep, whole_is_group};
 pub use parts::{
     Awaited, Begun, Entry, FirstBusy, Flown, KeptFence, Noted, Owner, Pending, Replied, Sent,
 };
+pub use slice::opening_calls_keeps;
