@@ -85,9 +85,8 @@ module _ (last last' epoch epoch' begin : ℕ) (what : Option Wanted) (answers m
 -- ---- all of it
 
 pub steps_keep : StepsKeep
-steps_keep other wanted v w h g o =
+steps_keep other wanted more v w h g o =
     let n : ℕ = length v.log.answers in
-    let more : List Logged = g.log.answers in
     record {
       memory = g.pools.memory h.memory;
       began = λ told. let b = h.began (g.pools.told told) in (b.0, g.began b.0 (g.pools.told told) b.1);
@@ -95,22 +94,22 @@ steps_keep other wanted v w h g o =
       pending = o.pending;
       calls =
           let none = none_above v.calls.last v.standing.cache_epoch v.log.answers v.calls.entries (v.calls.last + 1) h.calls (omega arith) in
-          subst (λ a. AllByRecursion (SoundEntry w.calls.last w.standing.cache_epoch a) w.calls.entries) (sym g.log.is_answers)
+          subst (λ a. AllByRecursion (SoundEntry w.calls.last w.standing.cache_epoch a) w.calls.entries) (sym o.logs)
           (entries_keep v.calls.last w.calls.last v.standing.cache_epoch w.standing.cache_epoch (length v.log.acts) wanted v.log.answers more g.epoch
           (new_unanswered (calls_in v.calls.entries) v.log.acts v.log.answers (v.calls.last + 1) none h.shaped.answered)
           (last_later v.calls.entries w.calls.entries v.calls.last w.calls.last w.standing.cache_epoch (length v.log.acts) wanted g.calls)
           v.calls.entries w.calls.entries g.calls h.calls o.over);
       flights = o.flights;
       traffic = o.traffic;
-      causes = subst (λ a. HaveCauses 0 w.calls w.agent.share w.standing.cache_epoch a) (sym g.log.is_answers)
+      causes = subst (λ a. HaveCauses 0 w.calls w.agent.share w.standing.cache_epoch a) (sym o.logs)
           (causes_append 0 w.calls w.agent.share w.standing.cache_epoch v.log.answers more
           (causes_stay n (length w.log.answers) v.calls w.calls (AreEntered (v.calls.last + 1) w.standing.cache_epoch (length v.log.acts) w.calls.last wanted)
           (HaveCome v.calls.entries w.calls.entries n v.standing w.standing) g.calls g.flown v.agent.share w.agent.share g.share
           v.standing.cache_epoch w.standing.cache_epoch g.epoch 0 v.log.answers (omega arith) h.causes)
           (subst (λ i. HaveCauses i w.calls w.agent.share w.standing.cache_epoch more) (omega arith) o.causes));
       counted = record {
-        cache = subst (λ a. faults_told Cache a ≤ w.stores.cache.faults) (sym g.log.is_answers) (omega (arith, faults_append Cache v.log.answers more, h.counted.cache, o.cache_failed));
-        base = subst (λ a. faults_told Base a ≤ w.stores.base.faults) (sym g.log.is_answers) (omega (arith, faults_append Base v.log.answers more, h.counted.base, o.base_failed));
+        cache = subst (λ a. faults_told Cache a ≤ w.stores.cache.faults) (sym o.logs) (omega (arith, faults_append Cache v.log.answers more, h.counted.cache, o.cache_failed));
+        base = subst (λ a. faults_told Base a ≤ w.stores.base.faults) (sym o.logs) (omega (arith, faults_append Base v.log.answers more, h.counted.base, o.base_failed));
       };
       stops = o.stops;
       totals = o.totals;

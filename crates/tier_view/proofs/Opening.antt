@@ -1,5 +1,6 @@
 -- A call is entered: the step, whole.
 use Rattle.std.proofs.Common.{◌≡◌, ◌≤◌, inl, inr, ℕ, ◌+◌, true, false, List, [], ◌∷◌, ◌++◌, length, Option, Some, None, refl, sym, ap, subst, arith}
+use Rattle.std.proofs.lemmas.List.{append-nil}
 use Rattle.obj_ops.specs.Stores.{Store}
 use Rattle.tier_chron.specs.Calls.{call_of}
 use Rattle.tier_chron.specs.declared.asked.Asked.{Asked}
@@ -62,6 +63,7 @@ module _ (v : GroupView) (line : Option ℕ) (asked : Asked) (h : IsWhole v) (li
 
   owes : Owes [] v W
   owes = record {
+    logs = sym (append-nil v.log.answers);
     shaped = λ s. shape_more v.calls.entries E v.log s unused refl;
     pending = pending_more v.calls.entries E v.log v.stores.pending h.pending;
     over = all_of (λ e. e.ended ≡ false → IsUnanswered e.number []) (λ e going. tt) W.calls.entries;
@@ -77,4 +79,4 @@ module _ (v : GroupView) (line : Option ℕ) (asked : Asked) (h : IsWhole v) (li
 pub opening_calls_keeps : OpeningCallsKeeps
 opening_calls_keeps v line asked h lined =
     let g = grows v line asked h lined in
-    (steps_keep (with_doubt (joined v).doubt) (What v line asked h lined) v (opened_call line asked v) h g (owes v line asked h lined), g)
+    (steps_keep (with_doubt (joined v).doubt) (What v line asked h lined) [] v (opened_call line asked v) h g (owes v line asked h lined), g)

@@ -39,7 +39,7 @@ rests_promises u =
     (record { acts = refl; cache = refl; base = refl; down = λ d. d; moves = λ start recs base there c b world h. h; memory = λ h. h })
     (record { cache = refl; base = refl; doubt = refl })
 
-pub log_rests : (log : Log) → LogGrows log log
+abbrev pub log_rests : (log : Log) → LogGrows log log
 log_rests log = record {
   opening = [];
   acts = [];

@@ -1,5 +1,5 @@
 -- What a step owes beside its growth, so that what always holds goes on; and the general law.
-use Rattle.std.specs.Prelude.{◌≡◌, ◌≤◌, ℕ, ◌+◌, false, List, length, Option, Some, None}
+use Rattle.std.specs.Prelude.{◌≡◌, ◌≤◌, ℕ, ◌+◌, false, List, ◌++◌, length, Option, Some, None}
 use Rattle.std.specs.List.{AllByRecursion}
 use Rattle.obj_model.specs.declared.change.Pool.TheVariants.{Cache, Base}
 use Rattle.obj_ops.specs.Stores.{Store}
@@ -15,6 +15,7 @@ use Rattle.tier_view.specs.Worlds.{Began, MayPend}
 
 -- What a step owes that logs these answers.
 pub record Owes (answers : List Logged) (old new : GroupView) : Type 0 where
+  pub logs : new.log.answers ≡ old.log.answers ++ answers
   pub shaped : IsShaped (calls_in old.calls.entries) old.log
       → IsShaped (calls_in new.calls.entries) new.log
   pub pending : MayPend new.calls.entries new.log new.stores.pending
@@ -35,8 +36,8 @@ pub record Owes (answers : List Logged) (old new : GroupView) : Type 0 where
 -- Any step that grows as a step may, and has what it owes, keeps what always holds.
 abbrev pub StepsKeep : Type 0
 StepsKeep =
-    (other : Store → Store) (wanted : Option Wanted) (v w : GroupView) → IsWhole v
-    → (g : Grows other wanted v w) → Owes g.log.answers v w → IsWhole w
+    (other : Store → Store) (wanted : Option Wanted) (answers : List Logged) (v w : GroupView)
+    → IsWhole v → Grows other wanted v w → Owes answers v w → IsWhole w
 
 -- what always holds of a group has what holds of its pools
 abbrev pub WholeIsGroup : Type 0
