@@ -4,3 +4,5 @@ pub mod Owning
 pub mod Entering
 pub mod Resting
 pub mod Opening
+pub mod Finding
+pub mod Beginning

@@ -1,18 +1,56 @@
 -- What is proved of the steps.
 use Rattle.std.specs.Prelude.{◌≡◌, ℕ, true, Option, Some, None}
+use Rattle.std.specs.FinMap as fin
+use Rattle.obj_model.specs.declared.req.Req.{Req}
+use Rattle.obj_ops.specs.Stores.{Store}
+use Rattle.tier_chron.specs.Calls.{call_of}
+use Rattle.tier_chron.specs.Shapes.{HasNoAct}
 use Rattle.tier_chron.specs.declared.asked.Asked.{Asked}
-use Rattle.tier_join.specs.Steps.{with_doubt}
-use Rattle.tier_view.specs.Grows.{Grows}
-use Rattle.tier_view.specs.Steps.{opened_call}
+use Rattle.tier_join.specs.Promises.{as_it_is}
+use Rattle.tier_join.specs.Steps.{HasRec, with_doubt}
+use Rattle.tier_protocol.specs.Tiers.{BaseMsg, Flight, Phase}
+use Rattle.tier_view.specs.Calls.{Entry, IsInFlight}
+use Rattle.tier_view.specs.Grows.{Grows, Wanted}
+use Rattle.tier_view.specs.Steps.{begun_write, opened_call, sent_now}
 use Rattle.tier_view.specs.Tables.{goes_without}
-use Rattle.tier_view.specs.Views.{GroupView, joined}
+use Rattle.tier_view.specs.Traffic.{Owner}
+use Rattle.tier_view.specs.Views.{GroupView, asking_of, calls_in, joined}
 use Rattle.tier_view.specs.Whole.{IsWhole}
+
+-- the step keeps what always holds, and grows as a step may
+abbrev pub Keeps : (Store → Store) → Option Wanted → (old new : GroupView) → Type 0
+Keeps other wanted old new = IsWhole new × Grows other wanted old new
 
 -- a call is entered, at any moment; what a client asks has a line
 abbrev pub OpeningCallsKeeps : Type 0
 OpeningCallsKeeps =
     (v : GroupView) (line : Option ℕ) (asked : Asked) → IsWhole v
     → (line ≡ None → goes_without asked ≡ true)
-    → IsWhole (opened_call line asked v)
-    × Grows (with_doubt (joined v).doubt) (Some (record { line = line; asked = asked })) v
+    → Keeps (with_doubt (joined v).doubt) (Some (record { line = line; asked = asked })) v
     (opened_call line asked v)
+
+-- the call asked this request, on this line
+abbrev pub HasAsked : GroupView → (call line : ℕ) → Req → Type 0
+HasAsked v call line r =
+    asking_of (call_of (calls_in v.calls.entries) call) ≡ Some (record { line = line; req = r })
+
+-- the write request of a call in flight, which has no act, begins on a name without a record
+abbrev pub BeginningWritesKeeps : Type 0
+BeginningWritesKeeps =
+    (v : GroupView) (owner line : ℕ) (r : Req) → IsWhole v → v.stores.pending ≡ None
+    → v.standing.phase ≡ Phase.Up → HasRec (joined v) r.name None
+    → fin.get v.traffic.flights r.name ≡ None → HasAsked v owner line r
+    → IsInFlight v.calls.entries owner → HasNoAct owner v.log.acts
+    → Keeps as_it_is None v (begun_write owner r v)
+
+-- The Write of a request that is under way is sent, at first, again, or by a call that took it over;
+-- it is its owner's.
+abbrev pub SendingWritesKeeps : Type 0
+SendingWritesKeeps =
+    (v : GroupView) (driver : Option ℕ) (owner line op : ℕ) (r : Req) → IsWhole v
+    → v.stores.pending ≡ None
+    → fin.get v.traffic.flights r.name ≡ Some (Flight.Write driver owner op r)
+    → HasAsked v owner line r
+    → Keeps as_it_is None v
+    (sent_now (BaseMsg.Write v.standing.cache_epoch op r)
+    (Some (record { call = owner; line = line })) v)

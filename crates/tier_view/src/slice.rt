@@ -1,7 +1,17 @@
 //! A proxied write, from its call's first step to its answer.
-ghost use Rattle.tier_view.specs.Laws.{OpeningCallsKeeps};
+ghost use Rattle.tier_view.specs.Laws.{BeginningWritesKeeps, OpeningCallsKeeps, SendingWritesKeeps};
 
 /// A call is entered in the table, at any moment.
 pub fn opening_calls_keeps()
     ensures { OpeningCallsKeeps }
+{}
+
+/// The write request of a call in flight begins, on a free name without a record.
+pub fn beginning_writes_keeps()
+    ensures { BeginningWritesKeeps }
+{}
+
+/// Its Write is sent, at first, again, or by a call that took it over.
+pub fn sending_writes_keeps()
+    ensures { SendingWritesKeeps }
 {}
