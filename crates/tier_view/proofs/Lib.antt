@@ -6,3 +6,5 @@ pub mod Resting
 pub mod Opening
 pub mod Finding
 pub mod Beginning
+pub mod Delivering
+pub mod Delivered

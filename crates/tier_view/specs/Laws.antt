@@ -1,19 +1,24 @@
 -- What is proved of the steps.
-use Rattle.std.specs.Prelude.{◌≡◌, ℕ, true, Option, Some, None}
+use Rattle.std.specs.Prelude.{◌≡◌, ℕ, true, List, Option, Some, None}
 use Rattle.std.specs.FinMap as fin
+use Rattle.obj_model.specs.declared.reply.Reply.{Reply}
 use Rattle.obj_model.specs.declared.req.Req.{Req}
+use Rattle.obj_model.specs.declared.state.NameState.{NameState}
 use Rattle.obj_ops.specs.Stores.{Store}
+use Rattle.store_face.specs.Views.{StoreView}
 use Rattle.tier_chron.specs.Calls.{call_of}
 use Rattle.tier_chron.specs.Shapes.{HasNoAct}
 use Rattle.tier_chron.specs.declared.asked.Asked.{Asked}
-use Rattle.tier_join.specs.Promises.{as_it_is}
-use Rattle.tier_join.specs.Steps.{HasRec, with_doubt}
+use Rattle.tier_chron.specs.declared.entries.First.{First}
+use Rattle.tier_join.specs.Promises.{as_it_is, with_req}
+use Rattle.tier_join.specs.Steps.{HasRec, Outcome, with_doubt}
 use Rattle.tier_protocol.specs.Tiers.{BaseMsg, Flight, Phase}
 use Rattle.tier_view.specs.Calls.{Entry, IsInFlight}
+use Rattle.tier_view.specs.Delivers.{ActsThere, CommitsThere, acted_there}
 use Rattle.tier_view.specs.Grows.{Grows, Wanted}
 use Rattle.tier_view.specs.Steps.{begun_write, opened_call, sent_now}
 use Rattle.tier_view.specs.Tables.{goes_without}
-use Rattle.tier_view.specs.Traffic.{Owner}
+use Rattle.tier_view.specs.Traffic.{Owner, Sent}
 use Rattle.tier_view.specs.Views.{GroupView, asking_of, calls_in, joined}
 use Rattle.tier_view.specs.Whole.{IsWhole}
 
@@ -54,3 +59,15 @@ SendingWritesKeeps =
     → Keeps as_it_is None v
     (sent_now (BaseMsg.Write v.standing.cache_epoch op r)
     (Some (record { call = owner; line = line })) v)
+
+-- A Write reaches the base and acts, also when its call has ended: its commit is made, in doubt, or
+-- not made.
+abbrev pub DeliveringActsKeeps : Type 0
+DeliveringActsKeeps =
+    (v : GroupView) (m : Sent) (o : Owner) (op : ℕ) (r : Req) (b t : NameState) (answer : Reply)
+    (first : Option First) (bytes : List ℕ) (s : StoreView) (result : Outcome) → IsWhole v
+    → v.stores.pending ≡ None → ActsThere v m o op r b t answer first
+    → CommitsThere v r t bytes s result
+    → Keeps (with_req r) None v
+    (acted_there m.number op first
+    (record { call = o.call; line = o.line; req = r; reply = answer }) t.seq s result v)

@@ -11,4 +11,5 @@ pub mod Grows
 pub mod Codes
 pub mod Owed
 pub mod Steps
+pub mod Delivers
 pub mod Laws

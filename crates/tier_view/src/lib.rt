@@ -17,4 +17,6 @@ pub use general::{steps_keep, whole_is_group};
 pub use parts::{
     Awaited, Begun, Entry, FirstBusy, Flown, KeptFence, Noted, Owner, Pending, Replied, Sent,
 };
-pub use slice::{beginning_writes_keeps, opening_calls_keeps, sending_writes_keeps};
+pub use slice::{
+    beginning_writes_keeps, delivering_acts_keeps, opening_calls_keeps, sending_writes_keeps,
+};

@@ -1,5 +1,5 @@
 //! A proxied write, from its call's first step to its answer.
-ghost use Rattle.tier_view.specs.Laws.{BeginningWritesKeeps, OpeningCallsKeeps, SendingWritesKeeps};
+ghost use Rattle.tier_view.specs.Laws.{BeginningWritesKeeps, DeliveringActsKeeps, OpeningCallsKeeps, SendingWritesKeeps};
 
 /// A call is entered in the table, at any moment.
 pub fn opening_calls_keeps()
@@ -14,4 +14,10 @@ pub fn beginning_writes_keeps()
 /// Its Write is sent, at first, again, or by a call that took it over.
 pub fn sending_writes_keeps()
     ensures { SendingWritesKeeps }
+{}
+
+/// A Write reaches the base and acts, also when its call has ended: its commit is made, in doubt, or
+/// not made. The act is its owner's.
+pub fn delivering_acts_keeps()
+    ensures { DeliveringActsKeeps }
 {}
