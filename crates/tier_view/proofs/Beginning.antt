@@ -1,7 +1,6 @@
 -- A write request begins, and its Write is sent.
-use Rattle.std.proofs.Common.{◌≡◌, ◌≢◌, ◌≤◌, ◌<◌, inl, inr, ℕ, ◌+◌, true, false, List, [], ◌∷◌, ◌++◌, length, Option, Some, None, refl, sym, ap, subst, ◌∙◌, arith}
+use Rattle.std.proofs.Common.{◌≡◌, ◌≢◌, ◌<◌, inl, inr, ℕ, ◌+◌, false, List, [], ◌∷◌, ◌++◌, length, Option, Some, None, refl, sym, ap, subst, ◌∙◌, arith}
 use Rattle.std.specs.FinMap as fin
-use Rattle.std.specs.List.{AllByRecursion}
 use Rattle.std.proofs.lemmas.List.{append-nil}
 use Rattle.obj_model.specs.declared.req.Req.{Req}
 use Rattle.obj_model.specs.declared.tier.Kind.{Kind}
@@ -10,15 +9,15 @@ use Rattle.obj_ops.specs.Stores.{Store}
 use Rattle.tier_chron.specs.Shapes.{HasNoAct}
 use Rattle.tier_chron.proofs.Lists.{all_imply, all_push}
 use Rattle.std.specs.Option.{option_map}
-use Rattle.tier_join.specs.Group.{BothTell, TwoMaps, AreLeft, tier_of}
+use Rattle.tier_join.specs.Group.{TwoMaps, AreLeft, tier_of}
 use Rattle.tier_join.specs.Promises.{Promises, as_it_is}
-use Rattle.tier_join.specs.Steps.{HasRec, after, seen}
+use Rattle.tier_join.specs.Steps.{HasRec, seen}
 use Rattle.tier_join.proofs.MemorySteps.{beginning_promises, sending_promises}
 use Rattle.tier_join.proofs.CacheSteps.{rec_is}
 use Rattle.tier_owners.proofs.Sending.{beginning_owned, writing_owned}
-use Rattle.tier_protocol.specs.Moves.{begun, sent, MayBegin}
+use Rattle.tier_protocol.specs.Moves.{begun, MayBegin}
 use Rattle.tier_protocol.specs.Owners.{IsOpen}
-use Rattle.tier_protocol.specs.Tiers.{BaseMsg, Flight, Flights, Name, Phase, TierRec, IsIn}
+use Rattle.tier_protocol.specs.Tiers.{BaseMsg, Flight, Flights, Name, Phase, TierRec}
 use Rattle.tier_protocol.proofs.ActLists.{in_last, in_old}
 use Rattle.tier_protocol.proofs.Cells.{get_here, get_there, same_or_not}
 use Rattle.tier_protocol.proofs.Steps.{beginning, sending}
@@ -27,12 +26,12 @@ use Rattle.tier_view.specs.Grows.{AreEntered, Grows, HaveCome, no_commit, Remain
 use Rattle.tier_view.specs.Laws.{BeginningWritesKeeps, HasAsked, SendingWritesKeeps}
 use Rattle.tier_view.specs.Owed.{Owes}
 use Rattle.tier_view.specs.Steps.{begun_write, sent_now, write_flight, write_flown}
-use Rattle.tier_view.specs.Stores.{Pending, doubt_in}
-use Rattle.tier_view.specs.Tables.{HasCome, IsListed, IsOfKind, IsStanding, IsTimed, IsUnanswered, SoundFlights, SoundFlown}
+use Rattle.tier_view.specs.Stores.{doubt_in}
+use Rattle.tier_view.specs.Tables.{HasCome, IsListed, IsOfKind, IsTimed, IsUnanswered, SoundFlights, SoundFlown}
 use Rattle.tier_view.specs.Traffic.{Begun}
 use Rattle.tier_view.specs.Views.{GroupView, joined, ledger_in, memory_of}
 use Rattle.tier_view.specs.Whole.{IsWhole}
-use Rattle.tier_view.specs.Worlds.{Began, HasOwners, IsOwned, IsOwnedBy}
+use Rattle.tier_view.specs.Worlds.{HasOwners, IsOwned, IsOwnedBy}
 use Rattle.tier_view.proofs.Finding.{going_unanswered, is_known, no_acts, not_closed, not_over}
 use Rattle.tier_view.proofs.Keeping.{steps_keep}
 use Rattle.tier_view.proofs.Resting.{all_of, extends_push, extends_same, log_rests, remains_itself, stays_itself}
@@ -57,7 +56,7 @@ listed_then es flown e begun epoch n (Flight.Write driver owner op r) h = (h.0, 
 listed_then es flown e begun epoch n (Flight.Reads list) h = λ r on. ((h r on).0, come_more flown e _ n r.opid _ (h r on).1)
 listed_then es flown e begun epoch n (Flight.Flush call op seq blocking drain) h = (h.0, h.1, come_more flown e _ n op _ h.2)
 
-none_of_kind : (k : Kind) (op : ℕ) → IsOfKind None k op → ⊥
+pub none_of_kind : (k : Kind) (op : ℕ) → IsOfKind None k op → ⊥
 none_of_kind kind.Promote op h = h
 none_of_kind kind.Write op h = h
 none_of_kind kind.Read op h = h

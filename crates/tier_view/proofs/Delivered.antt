@@ -1,5 +1,5 @@
 -- A Write reaches the base and acts: the step, whole, for each outcome of its commit.
-use Rattle.std.proofs.Common.{◌≡◌, ◌≤◌, ◌⊎◌, inl, inr, ℕ, ◌+◌, false, List, [], ◌∷◌, ◌++◌, map, length, Option, Some, None, Ok, Err, refl, sym, ap, subst, ◌∙◌, arith}
+use Rattle.std.proofs.Common.{◌≡◌, ◌≤◌, inl, inr, ℕ, ◌+◌, false, List, [], ◌∷◌, ◌++◌, length, Option, Some, None, Ok, Err, refl, sym, ap, subst, ◌∙◌, arith}
 use Rattle.std.specs.Option.{option_map}
 use Rattle.std.proofs.lemmas.List.{append-nil, map-append}
 use Rattle.obj_model.specs.declared.change.Change.{Change}
@@ -16,13 +16,13 @@ use Rattle.store_face.specs.Calls.{Committed, Made, MayBeMade, Stays as StoreSta
 use Rattle.store_face.specs.Views.{StoreView}
 use Rattle.store_face.specs.declared.fault.StoreFault.TheVariants.{Disk, BadImage, NoSpace, Worn, NoMemory}
 use Rattle.tier_chron.specs.Laws.{IsNamedFor}
-use Rattle.tier_chron.specs.Logs.{acted_log, opened}
+use Rattle.tier_chron.specs.Logs.{opened}
 use Rattle.tier_chron.specs.Places.{behind}
 use Rattle.tier_chron.specs.Shapes.{IsShaped}
 use Rattle.tier_chron.specs.declared.entries.Act.{Act}
 use Rattle.tier_chron.specs.declared.entries.First.{First}
 use Rattle.tier_chron.proofs.Staying.{act_keeps_shape}
-use Rattle.tier_join.specs.Group.{Memory, TwoMaps, View, AreLeft, BothTell, changed_in, tier_of}
+use Rattle.tier_join.specs.Group.{Memory, TwoMaps, View, AreLeft, BothTell, tier_of}
 use Rattle.tier_join.specs.Promises.{Promises, with_req}
 use Rattle.tier_join.specs.Steps.{Outcome, after, behind as left_behind, doubt_of, no_space, sets}
 use Rattle.tier_join.proofs.BaseSteps.{putting_promises}
@@ -44,8 +44,8 @@ use Rattle.tier_view.specs.Tables.{IsUnanswered, SoundFlights}
 use Rattle.tier_view.specs.Traffic.{Owner, Sent, Traffic}
 use Rattle.tier_view.specs.Views.{GroupView, act_in, calls_in, joined, ledger_in}
 use Rattle.tier_view.specs.Whole.{IsElsewhere, IsWhole, SoundTraffic}
-use Rattle.tier_view.specs.Worlds.{Began, IsOwned, IsOwnedBy, IsOwnedWith, MayPend}
-use Rattle.tier_view.proofs.Beginning.{owned_surely, surely_owned}
+use Rattle.tier_view.specs.Worlds.{Began, IsOwned, IsOwnedWith, MayPend}
+use Rattle.tier_view.proofs.Beginning.{surely_owned}
 use Rattle.tier_view.proofs.Delivering as deliver
 use Rattle.tier_view.proofs.Keeping.{steps_keep}
 use Rattle.tier_view.proofs.Owning.{knows_more}

@@ -1,10 +1,9 @@
 -- A Write reaches the base and acts.
-use Rattle.std.proofs.Common.{◌≡◌, ◌≢◌, ◌≤◌, ◌<◌, ◌⊎◌, inl, inr, ℕ, ◌+◌, Bool, true, false, cond, List, [], ◌∷◌, ◌++◌, map, length, Option, Some, None, Ok, Err, refl, sym, ap, subst, ◌∙◌, arith}
+use Rattle.std.proofs.Common.{◌≡◌, ◌<◌, ◌⊎◌, inl, inr, ℕ, cond, List, [], ◌∷◌, ◌++◌, map, Option, Some, None, refl, sym, ap, subst, ◌∙◌, arith}
 use Rattle.std.specs.FinMap as fin
-use Rattle.std.specs.List.{AllByRecursion}
-use Rattle.std.proofs.lemmas.List.{append-nil, map-append}
+use Rattle.std.proofs.lemmas.List.{append-nil}
 use Rattle.obj_model.specs.declared.change.Change.{Change}
-use Rattle.obj_model.specs.declared.change.Pool.TheVariants.{Base, Cache}
+use Rattle.obj_model.specs.declared.change.Pool.TheVariants.{Base}
 use Rattle.obj_model.specs.declared.reply.Reply.{Reply}
 use Rattle.obj_model.specs.declared.req.Req.{Req}
 use Rattle.obj_model.specs.declared.state.NameState.{NameState}
@@ -15,10 +14,9 @@ use Rattle.obj_ops.specs.declared.request.Acted.TheVariants.{Fresh}
 use Rattle.pool_keys.specs.Keys.{state_key}
 use Rattle.pool_keys.specs.Left.{IsLeft}
 use Rattle.pool_keys.specs.Maps.{SpellsBase}
-use Rattle.store_face.specs.Calls.{Committed, Made, MayBeMade}
+use Rattle.store_face.specs.Calls.{Made, MayBeMade}
 use Rattle.store_face.specs.Tables.{Table}
 use Rattle.store_face.specs.Views.{StoreView}
-use Rattle.store_face.specs.declared.fault.StoreFault.TheVariants.{Disk, BadImage, NoSpace, Worn, NoMemory}
 use Rattle.tier_chron.specs.Calls.{Call}
 use Rattle.tier_chron.specs.Fits.{IsHistoryFrom}
 use Rattle.tier_chron.specs.Laws.{IsNamedFor, IsOpeningFor, MayAct}
@@ -29,28 +27,25 @@ use Rattle.tier_chron.specs.declared.entries.Act.{Act}
 use Rattle.tier_chron.specs.declared.entries.First.{First}
 use Rattle.tier_chron.proofs.Growing.{act_keeps_legal}
 use Rattle.tier_chron.proofs.Staying.{act_keeps_shape, act_keeps_truth}
-use Rattle.tier_join.specs.Group.{HasStateAt, Memory, ShowsIn, TwoMaps, AreLeft, BothTell, changed_in, map_in, tier_of, with_act}
-use Rattle.tier_join.specs.Promises.{Promises, with_req}
+use Rattle.tier_join.specs.Group.{HasStateAt, Memory, ShowsIn, TwoMaps, AreLeft, changed_in, map_in, tier_of, with_act}
 use Rattle.tier_join.specs.Steps.{Outcome, after, sets}
-use Rattle.tier_join.proofs.BaseSteps.{is_delivered, putting_promises, served_sound, state_is, taken_sound}
+use Rattle.tier_join.proofs.BaseSteps.{is_delivered, served_sound, state_is, taken_sound}
 use Rattle.tier_join.proofs.Keys.{base_with}
-use Rattle.tier_join.proofs.Left.{FromLeft, made_left, now_since, rests_left, torn_since}
+use Rattle.tier_join.proofs.Left.{made_left, now_since, torn_since}
 use Rattle.tier_owners.proofs.Faithful.{taken_is_lost}
 use Rattle.tier_protocol.specs.Moves.{delivered, taken, with_served}
-use Rattle.tier_protocol.specs.Owners.{Ledger, Owned, SoundOwners, with_call_act}
+use Rattle.tier_protocol.specs.Owners.{Owned, SoundOwners, with_call_act}
 use Rattle.tier_protocol.specs.Sound.{is_dirty}
 use Rattle.tier_protocol.specs.Tiers.{BaseActed, BaseMsg, BaseReply, Tier, IsIn}
 use Rattle.tier_protocol.proofs.Cells.{get_here}
-use Rattle.tier_protocol.proofs.Delivers.{delivering, filling, flies, in_epoch_by}
+use Rattle.tier_protocol.proofs.Delivers.{delivering, flies, in_epoch_by}
 use Rattle.tier_protocol.proofs.Owners.{acts_for, losses_quiet, quiet_keeps}
 use Rattle.tier_types.specs.Serving.{Served, in_epoch, put_by, served, told_of}
 use Rattle.tier_view.specs.Delivers.{ActsThere, CommitsThere, IsFirstOf}
-use Rattle.tier_view.specs.Stores.{Pending}
 use Rattle.tier_view.specs.Traffic.{Owner, Sent, owned_by, owned_in, wire_of}
-use Rattle.tier_view.specs.Views.{GroupView, act_in, calls_in, joined, ledger_in}
-use Rattle.tier_view.specs.Whole.{AreNumbered, IsWhole}
+use Rattle.tier_view.specs.Views.{GroupView, act_in, joined, ledger_in}
+use Rattle.tier_view.specs.Whole.{AreNumbered}
 use Rattle.tier_view.specs.Worlds.{IsOwned}
-use Rattle.tier_view.proofs.Owning.{knows_more}
 
 -- ---- the message among those on the wire
 

@@ -1,5 +1,5 @@
 -- What the tables say of calls in flight.
-use Rattle.std.proofs.Common.{◌≡◌, ◌≢◌, ◌≤◌, inl, inr, ℕ, ◌==◌, ◌&&◌, ◌||◌, cond, not, Bool, true, false, List, [], ◌∷◌, ◌++◌, map, Option, Some, None, refl, sym, ap, subst, ◌∙◌, true≢false}
+use Rattle.std.proofs.Common.{◌≡◌, ◌≢◌, inl, inr, ℕ, ◌==◌, ◌&&◌, ◌||◌, cond, not, false, List, [], ◌∷◌, map, Option, Some, None, refl, sym, ap, subst, ◌∙◌}
 use Rattle.std.proofs.lemmas.Bool.{eqb-true}
 use Rattle.std.specs.List.{AllByRecursion, list_any}
 use Rattle.obj_ops.proofs.Keeping.{ne-eqb}
@@ -8,13 +8,11 @@ use Rattle.tier_chron.specs.Shapes.{is_fault}
 use Rattle.tier_chron.specs.declared.entries.Act.{Act}
 use Rattle.tier_chron.specs.declared.entries.Logged.{Logged}
 use Rattle.tier_chron.proofs.Lists.{either_way}
-use Rattle.tier_protocol.specs.Owners.{CallAct, HasNoAct, IsOpen}
-use Rattle.tier_protocol.specs.Tiers.{IsIn}
+use Rattle.tier_protocol.specs.Owners.{HasNoAct}
 use Rattle.tier_view.specs.Calls.{Entry, IsGoing, IsInFlight, entry_of}
 use Rattle.tier_view.specs.Grows.{IsNotOver}
 use Rattle.tier_view.specs.Tables.{IsUnanswered, SoundEntry}
-use Rattle.tier_view.specs.Traffic.{Sent}
-use Rattle.tier_view.specs.Views.{act_in, closes, ledger_of}
+use Rattle.tier_view.specs.Views.{act_in, closes}
 
 -- a call in flight was not answered
 pub going_unanswered : (last epoch : ℕ) (answers : List Logged) (es : List Entry) (n : ℕ) → AllByRecursion (SoundEntry last epoch answers) es → IsInFlight es n → IsUnanswered n answers

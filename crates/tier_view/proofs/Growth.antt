@@ -1,6 +1,5 @@
 -- What was said of the tables stays said when they grow.
-use Rattle.std.proofs.Common.{◌≡◌, ◌≢◌, ◌≤◌, ◌<◌, ◌⊎◌, inl, inr, ℕ, zero, suc, ◌+◌, ◌==◌, cond, Bool, true, false, List, [], ◌∷◌, ◌++◌, length, Option, Some, None, refl, sym, ap, subst, ◌∙◌, true≢false, arith, length-append}
-use Rattle.std.specs.List.{AllByRecursion}
+use Rattle.std.proofs.Common.{◌≡◌, ◌≤◌, ◌<◌, ◌⊎◌, inl, inr, ℕ, ◌+◌, ◌==◌, cond, Bool, true, false, List, [], ◌∷◌, ◌++◌, length, Option, Some, None, refl, sym, ap, subst, ◌∙◌, true≢false, arith}
 use Rattle.agent_state.specs.declared.totals.Share.{Share}
 use Rattle.obj_model.specs.declared.tier.Kind.{Kind}
 use Rattle.tier_chron.specs.declared.answer.Answer.{Answer}
@@ -10,8 +9,8 @@ use Rattle.tier_chron.specs.declared.asked.Asked.TheVariants.{Write, Read, Flush
 use Rattle.tier_chron.specs.declared.entries.Logged.{Logged}
 use Rattle.tier_protocol.specs.Tiers.{Name, IsIn}
 use Rattle.tier_view.specs.Calls.{Calls, Entry, Flown, entry_of}
-use Rattle.tier_view.specs.Grows.{AreEntered, Extends, Remains, Stays, Wanted}
-use Rattle.tier_view.specs.Whole.{AsksFor, BeganIn, HasCause, HaveCauses, IsFirstEpoch, StoodAt, WasBlocked, faults_told, tells_fault}
+use Rattle.tier_view.specs.Grows.{Extends, Remains, Stays}
+use Rattle.tier_view.specs.Whole.{AsksFor, BeganIn, HasCause, HaveCauses, IsFirstEpoch, StoodAt, WasBlocked, faults_told}
 use Rattle.obj_model.specs.declared.change.Pool.{Pool}
 
 -- ---- lists that extend others

@@ -1,16 +1,16 @@
 -- The general law: what a step owes is enough.
-use Rattle.std.proofs.Common.{◌≡◌, ◌≢◌, ◌≤◌, ◌<◌, inl, inr, ℕ, ◌+◌, ◌==◌, cond, Bool, true, false, List, [], ◌∷◌, ◌++◌, length, Option, Some, None, refl, sym, ap, subst, ◌∙◌, true≢false, arith, length-append}
+use Rattle.std.proofs.Common.{◌≡◌, ◌≢◌, ◌≤◌, ◌<◌, ℕ, ◌+◌, ◌==◌, cond, Bool, true, false, List, [], ◌∷◌, ◌++◌, length, Option, Some, None, refl, sym, ap, subst, ◌∙◌, true≢false, arith}
 use Rattle.std.proofs.lemmas.Bool.{eqb-true}
 use Rattle.std.specs.List.{AllByRecursion}
 use Rattle.obj_model.specs.declared.change.Pool.TheVariants.{Cache, Base}
 use Rattle.tier_chron.proofs.Lists.{all_imply, either_way}
 use Rattle.tier_chron.specs.Calls.{Call, call_of}
-use Rattle.tier_chron.specs.Shapes.{IsAnswered, IsShaped}
+use Rattle.tier_chron.specs.Shapes.{IsAnswered}
 use Rattle.tier_chron.specs.declared.entries.Act.{Act}
 use Rattle.tier_chron.specs.declared.entries.Logged.{Logged}
 use Rattle.tier_view.specs.Calls.{Entry}
-use Rattle.tier_view.specs.Grows.{AreEntered, Extends, IsNew, Remains, HaveCome, Stays, Wanted}
-use Rattle.tier_view.specs.Owed.{Owes, StepsKeep, WholeIsGroup}
+use Rattle.tier_view.specs.Grows.{AreEntered, Extends, IsNew, HaveCome, Stays, Wanted}
+use Rattle.tier_view.specs.Owed.{StepsKeep, WholeIsGroup}
 use Rattle.tier_view.specs.Tables.{IsUnanswered, SoundEntry, goes_without}
 use Rattle.tier_view.specs.Views.{calls_in}
 use Rattle.tier_view.specs.Whole.{HaveCauses, faults_told}

@@ -8,3 +8,6 @@ pub mod Finding
 pub mod Beginning
 pub mod Delivering
 pub mod Delivered
+pub mod Settling
+pub mod Stopping
+pub mod Refusals

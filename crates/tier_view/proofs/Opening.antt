@@ -1,5 +1,5 @@
 -- A call is entered: the step, whole.
-use Rattle.std.proofs.Common.{◌≡◌, ◌≤◌, inl, inr, ℕ, ◌+◌, true, false, List, [], ◌∷◌, ◌++◌, length, Option, Some, None, refl, sym, ap, subst, arith}
+use Rattle.std.proofs.Common.{◌≡◌, inl, ℕ, ◌+◌, true, false, [], ◌∷◌, length, Option, Some, None, refl, sym, arith}
 use Rattle.std.proofs.lemmas.List.{append-nil}
 use Rattle.obj_ops.specs.Stores.{Store}
 use Rattle.tier_chron.specs.Calls.{call_of}

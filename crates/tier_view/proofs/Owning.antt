@@ -1,14 +1,12 @@
 -- Whose act each Write will be, where the ledger or the memory changes.
-use Rattle.std.proofs.Common.{◌≡◌, ◌≢◌, ◌⊎◌, inl, inr, ℕ, Bool, true, false, List, [], ◌∷◌, ◌++◌, Option, Some, None, refl, sym, ap, subst, ◌∙◌}
-use Rattle.std.specs.Option.{option_map}
+use Rattle.std.proofs.Common.{◌≡◌, inl, inr, ℕ, false, List, [], ◌∷◌, ◌++◌, Option, Some, None, sym, ap, subst}
 use Rattle.obj_ops.specs.Stores.{Store}
-use Rattle.tier_join.specs.Group.{Memory, TwoMaps, with_act, with_epoch}
-use Rattle.tier_protocol.specs.Owners.{Asking, CallAct, IsOpen, Owned, Ledger, SoundOwners, SoundWriting, with_call_act}
-use Rattle.tier_protocol.specs.Tiers.{Name, Tier}
-use Rattle.obj_model.specs.declared.req.Req.{Req}
+use Rattle.tier_join.specs.Group.{Memory, TwoMaps}
+use Rattle.tier_protocol.specs.Owners.{Asking, CallAct, IsOpen, Owned, Ledger, SoundOwners, with_call_act}
+use Rattle.tier_protocol.specs.Tiers.{Tier}
 use Rattle.tier_view.specs.Stores.{Pending}
 use Rattle.tier_view.specs.Views.{act_in}
-use Rattle.tier_view.specs.Worlds.{IsOwned, IsOwnedBy, IsOwnedWith}
+use Rattle.tier_view.specs.Worlds.{IsOwnedBy, IsOwnedWith}
 
 -- one ledger knows all that the other does, and has the same Writes, acts and answers for good
 pub record KnowsMore (l m : Ledger) : Type 0 where
@@ -24,6 +22,7 @@ asked_more t l m owned acts asks closed h = by (m.owned) (m.acts) (sym owned) (s
   where
     open_more : (call : ℕ) → IsOpen l call → IsOpen (record m { owned = l.owned; acts = l.acts }) call
     open_more call k = (k.0, closed call k.1)
+
     as_it_was : SoundOwners t (record m { owned = l.owned; acts = l.acts })
     as_it_was = record {
       same = h.same;
@@ -43,6 +42,7 @@ asked_more t l m owned acts asks closed h = by (m.owned) (m.acts) (sym owned) (s
         told = k.told;
       };
     }
+
     by : (os : List Owned) (cs : List CallAct) → l.owned ≡ os → l.acts ≡ cs → SoundOwners t (record m { owned = os; acts = cs })
     by os cs e f = subst (λ a. SoundOwners t (record m { owned = os; acts = a })) f (subst (λ o. SoundOwners t (record m { owned = o; acts = l.acts })) e as_it_was)
 

@@ -1,11 +1,11 @@
 -- Steps that leave the stores, the history, or the tables as they are.
-use Rattle.std.proofs.Common.{◌≡◌, ◌≤◌, inl, inr, ℕ, ◌+◌, List, [], ◌∷◌, ◌++◌, length, Option, Some, None, refl, sym, ap, subst, arith}
+use Rattle.std.proofs.Common.{inl, ℕ, List, [], ◌∷◌, ◌++◌, refl, sym}
 use Rattle.std.proofs.lemmas.List.{append-nil}
 use Rattle.std.specs.List.{AllByRecursion}
 use Rattle.tier_chron.specs.Logs.{Log}
 use Rattle.tier_join.specs.Group.{View}
 use Rattle.tier_join.specs.Promises.{Promises}
-use Rattle.tier_join.specs.Steps.{Rests, with_doubt}
+use Rattle.tier_join.specs.Steps.{with_doubt}
 use Rattle.tier_join.proofs.Rests.{worlds_promise}
 use Rattle.tier_view.specs.Calls.{Entry, Flown}
 use Rattle.tier_view.specs.Grows.{Extends, LogGrows, Remains, Stays}

@@ -1,6 +1,8 @@
 -- What is proved of the steps.
 use Rattle.std.specs.Prelude.{◌≡◌, ℕ, true, List, Option, Some, None}
 use Rattle.std.specs.FinMap as fin
+use Rattle.agent_state.specs.declared.totals.Totals.{Totals}
+use Rattle.obj_model.specs.declared.change.Pool.{Pool}
 use Rattle.obj_model.specs.declared.reply.Reply.{Reply}
 use Rattle.obj_model.specs.declared.req.Req.{Req}
 use Rattle.obj_model.specs.declared.state.NameState.{NameState}
@@ -9,13 +11,16 @@ use Rattle.store_face.specs.Views.{StoreView}
 use Rattle.tier_chron.specs.Calls.{call_of}
 use Rattle.tier_chron.specs.Shapes.{HasNoAct}
 use Rattle.tier_chron.specs.declared.asked.Asked.{Asked}
+use Rattle.tier_chron.specs.declared.entries.Act.{Act}
 use Rattle.tier_chron.specs.declared.entries.First.{First}
+use Rattle.tier_join.specs.Group.{ShowsIn}
 use Rattle.tier_join.specs.Promises.{as_it_is, with_req}
-use Rattle.tier_join.specs.Steps.{HasRec, Outcome, with_doubt}
+use Rattle.tier_join.specs.Steps.{Has, HasRec, Outcome, with_doubt}
 use Rattle.tier_protocol.specs.Tiers.{BaseMsg, Flight, Phase}
-use Rattle.tier_view.specs.Calls.{Entry, IsInFlight}
+use Rattle.tier_view.specs.Calls.{IsInFlight}
 use Rattle.tier_view.specs.Delivers.{ActsThere, CommitsThere, acted_there}
 use Rattle.tier_view.specs.Grows.{Grows, Wanted}
+use Rattle.tier_view.specs.Settles.{Reopens, settled, settled_with}
 use Rattle.tier_view.specs.Steps.{begun_write, opened_call, sent_now}
 use Rattle.tier_view.specs.Tables.{goes_without}
 use Rattle.tier_view.specs.Traffic.{Owner, Sent}
@@ -71,3 +76,14 @@ DeliveringActsKeeps =
     → Keeps (with_req r) None v
     (acted_there m.number op first
     (record { call = o.call; line = o.line; req = r; reply = answer }) t.seq s result v)
+
+-- A store is opened anew, and what it shows settles the act in doubt: it enters the history, under
+-- the call whose act it is, exactly where it is there.
+abbrev pub SettlingActsKeeps : Type 0
+SettlingActsKeeps =
+    (pool : Pool) (v : GroupView) (first : Option First) (a : Act) (seq : ℕ) (s : StoreView)
+    (totals : Totals) → IsWhole v → Reopens pool v first a seq s totals
+    → (Has s (ShowsIn pool a.req.name seq)
+    → Keeps (with_doubt (joined v).doubt) None v (settled_with pool s totals first a v))
+    × (Has s (λ t. ShowsIn pool a.req.name seq t → ⊥)
+    → Keeps (with_doubt (joined v).doubt) None v (settled pool s totals v))

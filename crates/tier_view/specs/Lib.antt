@@ -12,4 +12,7 @@ pub mod Codes
 pub mod Owed
 pub mod Steps
 pub mod Delivers
+pub mod Settles
 pub mod Laws
+pub mod Stops
+pub mod Lies

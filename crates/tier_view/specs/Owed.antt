@@ -1,17 +1,16 @@
 -- What a step owes beside its growth, so that what always holds goes on; and the general law.
-use Rattle.std.specs.Prelude.{◌≡◌, ◌≤◌, ℕ, ◌+◌, false, List, ◌++◌, length, Option, Some, None}
+use Rattle.std.specs.Prelude.{◌≡◌, ◌≤◌, ◌+◌, false, List, ◌++◌, length, Option}
 use Rattle.std.specs.List.{AllByRecursion}
 use Rattle.obj_model.specs.declared.change.Pool.TheVariants.{Cache, Base}
 use Rattle.obj_ops.specs.Stores.{Store}
 use Rattle.tier_chron.specs.Shapes.{IsShaped}
 use Rattle.tier_chron.specs.declared.entries.Logged.{Logged}
-use Rattle.tier_join.specs.Group.{BothTell, IsGroup}
-use Rattle.tier_protocol.specs.Tiers.{IsIn}
+use Rattle.tier_join.specs.Group.{IsGroup}
 use Rattle.tier_view.specs.Grows.{Grows, Wanted}
 use Rattle.tier_view.specs.Tables.{IsUnanswered, SoundFlights}
 use Rattle.tier_view.specs.Views.{GroupView, calls_in, joined}
 use Rattle.tier_view.specs.Whole.{AreSums, HaveCauses, IsWhole, SoundStops, SoundTraffic, faults_told}
-use Rattle.tier_view.specs.Worlds.{Began, MayPend}
+use Rattle.tier_view.specs.Worlds.{MayPend}
 
 -- What a step owes that logs these answers.
 pub record Owes (answers : List Logged) (old new : GroupView) : Type 0 where

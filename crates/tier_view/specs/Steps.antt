@@ -1,12 +1,12 @@
 -- The steps of a group, as changes of its parts.
-use Rattle.std.specs.Prelude.{ℕ, ◌+◌, false, List, [], ◌∷◌, ◌++◌, length, Option, Some, None}
+use Rattle.std.specs.Prelude.{ℕ, ◌+◌, false, [], ◌∷◌, ◌++◌, length, Option, Some, None}
 use Rattle.std.specs.FinMap as fin
 use Rattle.obj_model.specs.declared.req.Req.{Req}
 use Rattle.obj_model.specs.declared.tier.Kind.TheVariants as kind
 use Rattle.tier_chron.specs.declared.asked.Asked.{Asked}
-use Rattle.tier_protocol.specs.Tiers.{BaseMsg, Flight, Name}
+use Rattle.tier_protocol.specs.Tiers.{BaseMsg, Flight}
 use Rattle.tier_view.specs.Calls.{Calls, Entry, Flown}
-use Rattle.tier_view.specs.Traffic.{Owner, Sent}
+use Rattle.tier_view.specs.Traffic.{Owner}
 use Rattle.tier_view.specs.Views.{GroupView}
 
 -- ---- a call is entered

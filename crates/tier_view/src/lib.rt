@@ -10,13 +10,18 @@
 #![tactic(auto)]
 
 mod general;
+mod lies;
 mod parts;
 mod slice;
+mod stops;
 
 pub use general::{steps_keep, whole_is_group};
+pub use lies::{entries_ask_what_is_wanted, made_up_work_is_refused, strangers_do_not_act};
 pub use parts::{
     Awaited, Begun, Entry, FirstBusy, Flown, KeptFence, Noted, Owner, Pending, Replied, Sent,
 };
 pub use slice::{
     beginning_writes_keeps, delivering_acts_keeps, opening_calls_keeps, sending_writes_keeps,
+    settling_acts_keeps,
 };
+pub use stops::stopping_cache_keeps;

@@ -1,5 +1,5 @@
 //! A proxied write, from its call's first step to its answer.
-ghost use Rattle.tier_view.specs.Laws.{BeginningWritesKeeps, DeliveringActsKeeps, OpeningCallsKeeps, SendingWritesKeeps};
+ghost use Rattle.tier_view.specs.Laws.{BeginningWritesKeeps, DeliveringActsKeeps, OpeningCallsKeeps, SendingWritesKeeps, SettlingActsKeeps};
 
 /// A call is entered in the table, at any moment.
 pub fn opening_calls_keeps()
@@ -20,4 +20,10 @@ pub fn sending_writes_keeps()
 /// not made. The act is its owner's.
 pub fn delivering_acts_keeps()
     ensures { DeliveringActsKeeps }
+{}
+
+/// A store is opened anew, and what it shows settles the act in doubt: it enters the history under
+/// its call, or it never was.
+pub fn settling_acts_keeps()
+    ensures { SettlingActsKeeps }
 {}

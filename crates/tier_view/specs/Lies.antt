@@ -1,0 +1,30 @@
+-- Lies about a group, each of which what always holds, or growth, refuses.
+use Rattle.std.specs.Prelude.{◌≡◌, ◌≢◌, List, [], ◌∷◌, ◌++◌, Option, Some, None}
+use Rattle.std.specs.FinMap as fin
+use Rattle.obj_ops.specs.Stores.{Store}
+use Rattle.tier_chron.specs.Calls.{call_of}
+use Rattle.tier_chron.specs.declared.entries.Act.{Act}
+use Rattle.tier_view.specs.Calls.{Entry, Flown}
+use Rattle.tier_view.specs.Grows.{Grows, Wanted}
+use Rattle.tier_view.specs.Views.{GroupView, calls_in}
+use Rattle.tier_view.specs.Whole.{IsWhole}
+
+-- an act, the first of its history, under a call that is not there
+abbrev pub StrangersDoNotAct : Type 0
+StrangersDoNotAct =
+    (v : GroupView) (a : Act) (acts : List Act) → IsWhole v → v.log.acts ≡ a ∷ acts
+    → call_of (calls_in v.calls.entries) a.call ≡ None → ⊥
+
+-- an entry, at the end of the table, that asked something else than what was wanted
+abbrev pub EntriesAskWhatIsWanted : Type 0
+EntriesAskWhatIsWanted =
+    (other : Store → Store) (wanted : Option Wanted) (v w : GroupView) (e : Entry)
+    → Grows other wanted v w → w.calls.entries ≡ v.calls.entries ++ e ∷ []
+    → wanted ≢ Some (record { line = e.line; asked = e.asked }) → ⊥
+
+-- work that is said to have come, and does not stand
+abbrev pub MadeUpWorkIsRefused : Type 0
+MadeUpWorkIsRefused =
+    (other : Store → Store) (wanted : Option Wanted) (v w : GroupView) (f : Flown) → IsWhole w
+    → Grows other wanted v w → w.calls.flown ≡ v.calls.flown ++ f ∷ []
+    → fin.get w.traffic.flights f.name ≡ None → ⊥
