@@ -1,10 +1,15 @@
 -- Lies that are refused.
-use Rattle.std.proofs.Common.{◌+◌, List, [], ◌∷◌, ◌++◌, length, subst}
+use Rattle.std.proofs.Common.{◌≡◌, ◌≢◌, ◌⊎◌, inl, inr, ℕ, ◌+◌, List, [], ◌∷◌, ◌++◌, length, Option, Some, None, refl, sym, ap, subst, ◌∙◌}
 use Rattle.std.specs.List.{AllByRecursion}
+use Rattle.obj_model.specs.declared.change.Change.{Change}
+use Rattle.store_face.specs.Rooms.{Room}
+use Rattle.store_face.specs.Tables.{changed_by}
+use Rattle.store_face.specs.Views.{CrashMaps, Durable, IsBehind, StoreView, alone, no_map}
+use Rattle.tier_outside.specs.Moments as moments
 use Rattle.tier_chron.specs.Calls.{call_of}
 use Rattle.tier_chron.specs.Shapes.{IsAskedBy}
 use Rattle.tier_view.specs.Grows.{AreEntered, Extends, HaveCome, Remains, Stays}
-use Rattle.tier_view.specs.Lies.{EntriesAskWhatIsWanted, MadeUpWorkIsRefused, StrangersDoNotAct}
+use Rattle.tier_view.specs.Lies.{EntriesAskWhatIsWanted, MadeUpWorkIsRefused, SecondCommitsAreRefused, StrangersDoNotAct}
 use Rattle.tier_view.specs.Tables.{IsOfKind, SoundFlown}
 use Rattle.tier_view.specs.Views.{calls_in}
 use Rattle.tier_view.proofs.Beginning.{none_of_kind}
@@ -35,3 +40,29 @@ made_up_work_is_refused other wanted v w f h g is none =
     let P = SoundFlown w.calls.entries w.traffic.flights (length w.log.answers) in
     let sound = last_of P v.calls.flown f (subst (AllByRecursion P) is h.flights.table) in
     none_of_kind f.kind f.opid (subst (λ o. IsOfKind o f.kind f.opid) none (sound.stands came.2.stands))
+
+-- ---- a second commit
+
+two_since : (P : CrashMaps → CrashMaps → Type 0) (om nm : Option (List CrashMaps)) (c x y : CrashMaps) → om ≡ Some (c ∷ []) → nm ≡ Some (c ∷ x ∷ y ∷ []) → moments.Grows no_map om nm P → P c x × P c y
+two_since P om nm c x y was now g =
+    let same : Some (c ∷ x ∷ y ∷ []) ≡ Some (c ∷ g.more) = sym now ∙ g.grew ∙ ap (λ m. moments.grown m g.more) was in
+    let more : g.more ≡ x ∷ y ∷ [] = cc in
+    let each : moments.Each g.more (P c) = subst (λ m. moments.Now no_map m (λ w. moments.Each g.more (P w))) was g.each in
+    let both : moments.Each (x ∷ y ∷ []) (P c) = subst (λ m. moments.Each m (P c)) more each in
+    (both.0, both.1.0)
+
+changed_so : (room : Room) (cs : List Change) (d e : Durable) → e.table ≢ d.table → (e ≡ d) ⊎ IsBehind room cs d e → e.table ≡ changed_by d.table cs
+changed_so room cs d e ne (inl same) = absurd (ne (ap (λ x. x.table) same))
+changed_so room cs d e ne (inr h) = h.table
+
+among_so : (d e : Durable) → e.table ≢ d.table → (e ≡ d) ⊎ (e ≡ d) → ⊥
+among_so d e ne (inl same) = ne (ap (λ x. x.table) same)
+among_so d e ne (inr same) = ne (ap (λ x. x.table) same)
+
+pub second_commits_are_refused : SecondCommitsAreRefused
+second_commits_are_refused old new d e f was now ne nf two (inl one) =
+    let g = two_since _ old.moments new.moments (alone d) (alone e) (alone f) was now one.1 in
+    two (changed_so old.room one.0 d e ne g.0.before ∙ sym (changed_so old.room one.0 d f nf g.1.before))
+second_commits_are_refused old new d e f was now ne nf two (inr among) =
+    let g = two_since _ old.moments new.moments (alone d) (alone e) (alone f) was now among in
+    among_so d e ne g.0.before

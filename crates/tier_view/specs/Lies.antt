@@ -2,10 +2,11 @@
 use Rattle.std.specs.Prelude.{◌≡◌, ◌≢◌, List, [], ◌∷◌, ◌++◌, Option, Some, None}
 use Rattle.std.specs.FinMap as fin
 use Rattle.obj_ops.specs.Stores.{Store}
+use Rattle.store_face.specs.Views.{Durable, StoreView, alone}
 use Rattle.tier_chron.specs.Calls.{call_of}
 use Rattle.tier_chron.specs.declared.entries.Act.{Act}
 use Rattle.tier_view.specs.Calls.{Entry, Flown}
-use Rattle.tier_view.specs.Grows.{Grows, Wanted}
+use Rattle.tier_view.specs.Grows.{Grows, IsTouched, Wanted}
 use Rattle.tier_view.specs.Views.{GroupView, calls_in}
 use Rattle.tier_view.specs.Whole.{IsWhole}
 
@@ -28,3 +29,10 @@ MadeUpWorkIsRefused =
     (other : Store → Store) (wanted : Option Wanted) (v w : GroupView) (f : Flown) → IsWhole w
     → Grows other wanted v w → w.calls.flown ≡ v.calls.flown ++ f ∷ []
     → fin.get w.traffic.flights f.name ≡ None → ⊥
+
+-- A store that had one map, and since then two others one after another: two commits of one step.
+abbrev pub SecondCommitsAreRefused : Type 0
+SecondCommitsAreRefused =
+    (old new : StoreView) (d e f : Durable) → old.moments ≡ Some (alone d ∷ [])
+    → new.moments ≡ Some (alone d ∷ alone e ∷ alone f ∷ [])
+    → e.table ≢ d.table → f.table ≢ d.table → e.table ≢ f.table → IsTouched old new → ⊥

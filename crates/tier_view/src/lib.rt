@@ -16,7 +16,10 @@ mod slice;
 mod stops;
 
 pub use general::{steps_keep, whole_is_group};
-pub use lies::{entries_ask_what_is_wanted, made_up_work_is_refused, strangers_do_not_act};
+pub use lies::{
+    entries_ask_what_is_wanted, made_up_work_is_refused, second_commits_are_refused,
+    strangers_do_not_act,
+};
 pub use parts::{
     Awaited, Begun, Entry, FirstBusy, Flown, KeptFence, Noted, Owner, Pending, Replied, Sent,
 };

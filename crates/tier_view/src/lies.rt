@@ -1,5 +1,5 @@
 //! Lies about a group that what always holds, or growth, refuses.
-ghost use Rattle.tier_view.specs.Lies.{EntriesAskWhatIsWanted, MadeUpWorkIsRefused, StrangersDoNotAct};
+ghost use Rattle.tier_view.specs.Lies.{EntriesAskWhatIsWanted, MadeUpWorkIsRefused, SecondCommitsAreRefused, StrangersDoNotAct};
 
 /// No act is that of a call that is not there.
 pub fn strangers_do_not_act()
@@ -14,4 +14,9 @@ pub fn entries_ask_what_is_wanted()
 /// Work that is said to have come stands.
 pub fn made_up_work_is_refused()
     ensures { MadeUpWorkIsRefused }
+{}
+
+/// A step commits once at most in a store.
+pub fn second_commits_are_refused()
+    ensures { SecondCommitsAreRefused }
 {}
