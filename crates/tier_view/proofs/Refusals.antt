@@ -1,17 +1,22 @@
 -- Lies that are refused.
-use Rattle.std.proofs.Common.{◌≡◌, ◌≢◌, ◌⊎◌, inl, inr, ℕ, ◌+◌, List, [], ◌∷◌, ◌++◌, length, Option, Some, None, refl, sym, ap, subst, ◌∙◌}
+use Rattle.std.proofs.Common.{◌≡◌, ◌≢◌, ◌⊎◌, inl, inr, ℕ, ◌+◌, Bool, true, false, true≢false, List, [], ◌∷◌, ◌++◌, length, Option, Some, sym, ap, subst, ◌∙◌}
 use Rattle.std.specs.List.{AllByRecursion}
 use Rattle.obj_model.specs.declared.change.Change.{Change}
 use Rattle.store_face.specs.Rooms.{Room}
 use Rattle.store_face.specs.Tables.{changed_by}
-use Rattle.store_face.specs.Views.{CrashMaps, Durable, IsBehind, StoreView, alone, no_map}
+use Rattle.store_face.specs.Views.{CrashMaps, Durable, IsBehind, alone, no_map}
 use Rattle.tier_outside.specs.Moments as moments
 use Rattle.tier_chron.specs.Calls.{call_of}
-use Rattle.tier_chron.specs.Shapes.{IsAskedBy}
+use Rattle.obj_model.specs.declared.out.Out.{Out}
+use Rattle.tier_chron.specs.Shapes.{IsAnswered, IsAskedBy, may_answer}
+use Rattle.tier_chron.specs.declared.answer.Answer.TheVariants as answer
+use Rattle.tier_chron.specs.declared.asked.Asked.TheVariants.{Flush}
+use Rattle.tier_chron.specs.declared.entries.Logged.{Logged}
 use Rattle.tier_view.specs.Grows.{AreEntered, Extends, HaveCome, Remains, Stays}
-use Rattle.tier_view.specs.Lies.{EntriesAskWhatIsWanted, MadeUpWorkIsRefused, SecondCommitsAreRefused, StrangersDoNotAct}
+use Rattle.tier_view.specs.Lies.{BlockedIsByWork, EntriesAskWhatIsWanted, FlushesAreToldNoValues, MadeUpWorkIsRefused, SecondCommitsAreRefused, StrangersDoNotAct}
 use Rattle.tier_view.specs.Tables.{IsOfKind, SoundFlown}
 use Rattle.tier_view.specs.Views.{calls_in}
+use Rattle.tier_view.specs.Whole.{HasCause, HaveCauses, WasBlocked}
 use Rattle.tier_view.proofs.Beginning.{none_of_kind}
 
 pub strangers_do_not_act : StrangersDoNotAct
@@ -66,3 +71,21 @@ second_commits_are_refused old new d e f was now ne nf two (inl one) =
 second_commits_are_refused old new d e f was now ne nf two (inr among) =
     let g = two_since _ old.moments new.moments (alone d) (alone e) (alone f) was now among in
     among_so d e ne g.0.before
+
+-- ---- answers that cannot be
+
+no_values : (name : List ℕ) (blocking begin_only : Bool) (ver : ℕ) (outs : List Out) → may_answer (Flush name blocking begin_only) (answer.Values ver outs) ≡ true → ⊥
+no_values name blocking false ver outs e = true≢false (sym e)
+no_values name blocking true ver outs e = true≢false (sym e)
+
+pub flushes_are_told_no_values : FlushesAreToldNoValues
+flushes_are_told_no_values v l ls c name blocking begin_only ver outs h is found asked told =
+    let P = λ (m : Logged). IsAnswered v.log.acts m (call_of (calls_in v.calls.entries) m.call) in
+    let first : IsAnswered v.log.acts l (Some c) = subst (IsAnswered v.log.acts l) found (subst (AllByRecursion P) is h.shaped.answered).0 in
+    no_values name blocking begin_only ver outs (subst (λ x. may_answer (Flush name blocking begin_only) x ≡ true) told (subst (λ x. may_answer x l.answer ≡ true) asked first.kind))
+
+pub blocked_is_by_work : BlockedIsByWork
+blocked_is_by_work v l ls k op h is told alone_ =
+    let first : HasCause 0 v.calls v.agent.share v.standing.cache_epoch l l.answer = (subst (HaveCauses 0 v.calls v.agent.share v.standing.cache_epoch) is h.causes).0 in
+    let by : WasBlocked 0 v.calls l k op = subst (HasCause 0 v.calls v.agent.share v.standing.cache_epoch l) told first in
+    by.other (alone_ by.work by.on by.kind by.opid)

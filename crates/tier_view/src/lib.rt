@@ -17,8 +17,8 @@ mod stops;
 
 pub use general::{steps_keep, whole_is_group};
 pub use lies::{
-    entries_ask_what_is_wanted, made_up_work_is_refused, second_commits_are_refused,
-    strangers_do_not_act,
+    blocked_is_by_work, entries_ask_what_is_wanted, flushes_are_told_no_values,
+    made_up_work_is_refused, second_commits_are_refused, strangers_do_not_act,
 };
 pub use parts::{
     Awaited, Begun, Entry, FirstBusy, Flown, KeptFence, Noted, Owner, Pending, Replied, Sent,
