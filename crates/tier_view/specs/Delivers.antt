@@ -33,8 +33,8 @@ replied_now number reply t = record t {
 abbrev pub with_base : StoreView → Option Pending → GroupView → GroupView
 with_base s p v = record v { stores = record v.stores { base = s; pending = p } }
 
--- Made: the act enters the history, and the base replies. In doubt: the act is kept with it. Without
--- room: the base replies so. Else nothing.
+-- Made: the act enters the history, and the base replies. In doubt: the act is kept with it.
+-- Without room: the base replies so. Else nothing.
 abbrev pub acted_there : (number op : ℕ) → Option First → Act → (seq : ℕ) → StoreView → Outcome
     → GroupView → GroupView
 acted_there number op first a seq s (Ok made) v = record (with_base s None v) {

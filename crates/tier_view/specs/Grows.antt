@@ -120,6 +120,14 @@ HaveCome before now count old new (f ∷ []) =
     × IsComing before now old.next_opid count f
 HaveCome before now count old new (f ∷ fs) = ⊥
 
+-- the table of work grows
+abbrev pub WorkGrows : (old new : GroupView) → Type 0
+WorkGrows old new =
+    let before = length old.log.answers in
+    Extends (Remains before (length new.log.answers))
+    (HaveCome old.calls.entries new.calls.entries before old.standing new.standing)
+    old.calls.flown new.calls.flown
+
 -- ---- commits
 
 -- no map of the store comes
@@ -149,9 +157,7 @@ pub record Grows (other : Store → Store) (wanted : Option Wanted) (old new : G
     pub log : LogGrows old.log new.log
     pub one_answer : AtMostOne log.answers
     pub calls : CallsGrow new.standing.cache_epoch (length old.log.acts) wanted old.calls new.calls
-    pub flown : Extends (Remains (length old.log.answers) (length new.log.answers))
-        (HaveCome old.calls.entries new.calls.entries (length old.log.answers) old.standing new.standing)
-        old.calls.flown new.calls.flown
+    pub flown : WorkGrows old new
     pub commit : OneCommit old.stores new.stores
     pub epoch : old.standing.cache_epoch ≤ new.standing.cache_epoch
     pub cache_faults : old.stores.cache.faults ≤ new.stores.cache.faults

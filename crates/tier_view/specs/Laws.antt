@@ -53,8 +53,8 @@ BeginningWritesKeeps =
     → IsInFlight v.calls.entries owner → HasNoAct owner v.log.acts
     → Keeps as_it_is None v (begun_write owner r v)
 
--- The Write of a request that is under way is sent, at first, again, or by a call that took it over;
--- it is its owner's.
+-- The Write of a request that is under way is sent, at first, again, or by a call that took it
+-- over; it is its owner's.
 abbrev pub SendingWritesKeeps : Type 0
 SendingWritesKeeps =
     (v : GroupView) (driver : Option ℕ) (owner line op : ℕ) (r : Req) → IsWhole v

@@ -16,8 +16,8 @@ pub fn sending_writes_keeps()
     ensures { SendingWritesKeeps }
 {}
 
-/// A Write reaches the base and acts, also when its call has ended: its commit is made, in doubt, or
-/// not made. The act is its owner's.
+/// A Write reaches the base and acts, also when its call has ended: its commit is made, in doubt,
+/// or not made. The act is its owner's.
 pub fn delivering_acts_keeps()
     ensures { DeliveringActsKeeps }
 {}
