@@ -1,0 +1,13 @@
+pub mod Growth
+pub mod Keeping
+pub mod Owning
+pub mod Entering
+pub mod Resting
+pub mod Opening
+pub mod Finding
+pub mod Beginning
+pub mod Delivering
+pub mod Delivered
+pub mod Settling
+pub mod Stopping
+pub mod Refusals

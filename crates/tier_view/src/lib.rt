@@ -1,0 +1,30 @@
+//! A group of two pools as contracts see it, what always holds of it, and the laws of its steps.
+//!
+//! A group is plain data in six parts (`specs/Views.antt`): its stores with the commit in doubt,
+//! its history, its calls with the work that they began, what is between the pools, how far it is
+//! started, and the agent. What memory holds for the pools (`tier_join`), the calls as a history
+//! knows them (`tier_chron`) and whose act each Write will be (`tier_protocol`) are read off these
+//! parts and not kept beside them. `specs/Whole.antt` says what always holds, `specs/Grows.antt`
+//! what a step may do, `specs/Owed.antt` what a step owes, part by part. The calls of this crate
+//! do nothing: their contracts are the laws.
+#![tactic(auto)]
+
+mod general;
+mod lies;
+mod parts;
+mod slice;
+mod stops;
+
+pub use general::{steps_keep, whole_is_group};
+pub use lies::{
+    blocked_is_by_work, entries_ask_what_is_wanted, flushes_are_told_no_values,
+    made_up_work_is_refused, second_commits_are_refused, strangers_do_not_act,
+};
+pub use parts::{
+    Awaited, Begun, Entry, FirstBusy, Flown, KeptFence, Noted, Owner, Pending, Replied, Sent,
+};
+pub use slice::{
+    beginning_writes_keeps, delivering_acts_keeps, opening_calls_keeps, sending_writes_keeps,
+    settling_acts_keeps,
+};
+pub use stops::stopping_cache_keeps;
