@@ -127,13 +127,13 @@ module _ (v : GroupView) (m : Sent) (o : Owner) (op : ℕ) (r : Req) (b t : Name
     T = tier_of start Mem k.spells.recs k.spells.base
 
     here : state_of k.spells.base r.name ≡ b
-    here = state_is start (joined v) z (Some r.name) b acts.has i k.spells
+    here = state_is start (joined v) z r.name b acts.has i k.spells
 
     pub fresh_here : act (state_of k.spells.base r.name) r ≡ Fresh t answer
     fresh_here = ap (λ x. act x r) here ∙ acts.acts
 
     moved : SoundOwners (with_served M Out T) (with_call_act (act_in A) (ledger_in v))
-    moved = subst (λ d. SoundOwners d (with_call_act (act_in A) (ledger_in v))) (is_delivered start (joined v) z M b Out on acts.has is i k.spells)
+    moved = subst (λ d. SoundOwners d (with_call_act (act_in A) (ledger_in v))) (is_delivered start (joined v) z M b Out on (λ same. acts.has) is i k.spells)
         (acts_for T (ledger_in v) E op r t answer (owned_as E op r o) k.spells.sound k.owners on refl fresh_here
         (is_owned v.traffic.messages m E op r o acts.on acts.message acts.owner) (refl, refl, refl)).1
 
@@ -167,7 +167,7 @@ module _ (v : GroupView) (m : Sent) (o : Owner) (op : ℕ) (r : Req) (b t : Name
           base = fin.insert k.spells.base r.name t;
           cached = k.spells.cached;
           based = put_based;
-          sound = served_sound start (joined v) z M b Out on acts.has is i k.spells;
+          sound = served_sound start (joined v) z M b Out on (λ same. acts.has) is i k.spells;
         };
         owners = moved start z i k;
       }
@@ -175,7 +175,7 @@ module _ (v : GroupView) (m : Sent) (o : Owner) (op : ℕ) (r : Req) (b t : Name
       quiet_is : taken M (T start z i k) ≡ tier_of start (with_act r Mem) k.spells.recs (fin.insert k.spells.base r.name t)
       quiet_is =
           ap {A = Tier} {B = Tier} (λ d. record d { net = record d.net { wire = Mem.net.wire; replies = Mem.net.replies } })
-          (is_delivered start (joined v) z M b Out on acts.has is i k.spells)
+          (is_delivered start (joined v) z M b Out on (λ same. acts.has) is i k.spells)
 
       -- made, and nobody was told
       pub torn_owned : IsOwned start (with_act r Mem) (with_call_act (act_in A) (ledger_in v)) (changed_in Base Cs z)
@@ -185,7 +185,7 @@ module _ (v : GroupView) (m : Sent) (o : Owner) (op : ℕ) (r : Req) (b t : Name
           base = fin.insert k.spells.base r.name t;
           cached = k.spells.cached;
           based = put_based;
-          sound = taken_sound start (joined v) z M b Out on acts.has is i k.spells;
+          sound = taken_sound start (joined v) z M b Out on (λ same. acts.has) is i k.spells;
         };
         owners = subst (λ d. SoundOwners d (with_call_act (act_in A) (ledger_in v))) quiet_is (quietly start z i k);
       }
