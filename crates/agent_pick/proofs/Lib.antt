@@ -1,1 +1,4 @@
 pub mod Ranks
+pub mod Cyclic
+pub mod Ties
+pub mod Indexed

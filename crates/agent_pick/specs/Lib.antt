@@ -1,3 +1,5 @@
 pub mod Rules
 pub mod Steps
 pub mod Picks
+pub mod Indexes
+pub mod IndexLaws

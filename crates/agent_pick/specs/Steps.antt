@@ -1,5 +1,5 @@
 -- What the steps of a pick promise each other.
-use Rattle.std.specs.Prelude.{◌≡◌, ◌<◌, ◌≤◌, ◌^◌, ℕ, Bool, true, false, List, nat_lt}
+use Rattle.std.specs.Prelude.{◌≡◌, ◌<◌, ◌≤◌, ◌^◌, ℕ, true, false, List, nat_lt}
 use Rattle.agent_state.specs.declared.modes.EvictMode.{EvictMode}
 use Rattle.agent_state.specs.declared.modes.EvictMode.TheVariants as evict
 use Rattle.agent_pick.specs.declared.row.Row.{Row}

@@ -1,9 +1,11 @@
 //! The parts that decide, run over tables that were worked out by hand or by another program: the
-//! agent's modes, the paths of calls, pool values. The promises themselves are proved.
+//! agent's modes and picks, the paths of calls, pool values. The promises themselves are proved.
 #![tactic(auto)]
 
 #[cfg(test)]
 mod modes;
+#[cfg(test)]
+mod picks;
 #[cfg(test)]
 mod routes;
 #[cfg(test)]

@@ -1,10 +1,11 @@
 //! Pool values: the ends of each range, keys given twice, depth, length and what is told first.
-use crate::tools::{DEFAULTS, Row};
+use crate::tools::DEFAULTS;
 use obj_model::{HitType, Mode, PoolValues};
 use settings_json::{SettingsFault, read_values};
 use std::alloc::Global;
 use std::process::Abort;
 use std::test::Fail;
+use test_rows::Row;
 
 // What is told, as the program prints it: `notjson`, `unknown KEY`, `bad KEY`, or nothing.
 fn told(alloc: Global, bytes: &[u8]) -> Result<String, Fail> {

@@ -1,40 +1,6 @@
-//! What the tables share: rows as texts, whose words stand apart by single spaces.
+//! What the tables share: the values of a pool that sets none.
 use obj_model::{HitType, Mode, PoolValues};
-use std::test::Fail;
 
-/// The words of a row that are left.
-#[derive(Drop)]
-pub struct Row<'a> {
-    rest: &'a str,
-}
-
-impl<'a> Row<'a> {
-    pub fn new(rest: &'a str) -> Row<'a> {
-        Row { rest }
-    }
-
-    /// The next word; an empty one where none is left.
-    pub fn word(&mut self) -> &'a str {
-        match self.rest.split_once(' ') {
-            Some((word, rest)) => {
-                self.rest = rest;
-                word
-            }
-            None => {
-                let word = self.rest;
-                self.rest = "";
-                word
-            }
-        }
-    }
-
-    /// The next word, a number.
-    pub fn number(&mut self) -> Result<u64, Fail> {
-        Ok(self.word().parse::<u64>().ok().ok_or("a number")?)
-    }
-}
-
-/// The values of a pool that sets none.
 pub const DEFAULTS: PoolValues = PoolValues {
     cache_mode: Mode::Writeback,
     hit_set_type: HitType::Bloom,

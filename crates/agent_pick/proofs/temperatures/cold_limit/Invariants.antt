@@ -1,4 +1,4 @@
-use Rattle.std.proofs.Common.{◌-◌, ◌<◌, ◌≤◌, ℕ}
+use Rattle.std.proofs.Common.{◌-◌, ◌<◌, ◌≤◌}
 use Rattle.agent_pick.specs.Steps.{IsBetween}
 use Rattle.agent_pick.proofs.temperatures.cold_limit.Given as goal
 
