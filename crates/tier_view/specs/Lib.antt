@@ -15,4 +15,5 @@ pub mod Delivers
 pub mod Settles
 pub mod Laws
 pub mod Stops
+pub mod Changes
 pub mod Lies
