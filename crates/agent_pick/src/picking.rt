@@ -30,7 +30,8 @@ pub fn pick(
     values: &PoolValues,
     now: u64,
 ) -> Chosen
-    ensures { result ≡ pick_of rows.now (option_copied cursor.entry) (rule_of modes.now values.now now) }
+    ensures { result ≡ pick_of rows.now (option_copied cursor.entry)
+        (rule_of modes.now values.now now) }
 {
     if rows.is_empty() {
         return Chosen::Nothing;

@@ -2,8 +2,7 @@
 use Rattle.std.specs.Prelude.{ℕ, List}
 
 -- free blocks: the numbers that there are lie below the limit, and `free` are those of them that
--- are free, in rising
--- order; so many more can be given back with no more memory
+-- are free, in rising order; so many more can be given back with no more memory
 pub record Space : Type 0 where
   pub limit : ℕ
   pub free : List ℕ

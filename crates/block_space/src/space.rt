@@ -13,10 +13,8 @@ use std::marker::Model;
 /// The set of free block numbers below a limit.
 ///
 /// Contracts see it as the limit, the free numbers in rising order, and `spare`, the number of
-/// blocks that can be given
-/// back before memory has to be reserved again. A new set takes no memory; the numbers given back
-/// take four bytes each
-/// while they are free again.
+/// blocks that can be given back before memory has to be reserved again. A new set takes no memory;
+/// the numbers given back take four bytes each while they are free again.
 #[derive(Drop)]
 pub struct BlockSpace {
     alloc: Global,
@@ -74,17 +72,18 @@ impl BlockSpace {
     /// Takes the `count` lowest free numbers, and gives them in rising order.
     ///
     /// Each costs about the logarithm of the number of blocks that were given back and are free, or
-    /// nothing but an
-    /// addition where none are. Answers `NoRoom` with the number of free blocks exactly where fewer
-    /// than `count` are free,
-    /// and `NoMemory` where there is no memory for the list; then nothing has changed.
+    /// nothing but an addition where none are. Answers `NoRoom` with the number of free blocks
+    /// exactly where fewer than `count` are free, and `NoMemory` where there is no memory for the
+    /// list; then nothing has changed.
     pub fn take(&mut self, count: u32) -> Result<Vec<u32>, TakeFault>
         ensures enough { OnOk result (count ≤ length self.old.free) }
         ensures lowest { IfOk result (λ blocks. blocks.items ≡ take count self.old.free) }
         ensures rising { IfOk result (λ blocks. IsStrictlyIncreasing blocks.items) }
         ensures below { IfOk result (λ blocks. All (λ block. block < self.old.limit) blocks.items) }
-        ensures gone { IfOk result (λ blocks. All (λ block. ¬ Contains self.new.free block) blocks.items) }
-        ensures others { OnOk result (self.new ≡ record self.old { free = drop count self.old.free }) }
+        ensures gone { IfOk result (λ blocks.
+            All (λ block. ¬ Contains self.new.free block) blocks.items) }
+        ensures others { OnOk result
+            (self.new ≡ record self.old { free = drop count self.old.free }) }
         ensures refused { OnErr result (self.new ≡ self.old) }
         ensures cause { IfErr result (IsCause count (length self.old.free)) }
     {
@@ -136,8 +135,7 @@ impl BlockSpace {
     /// was ready already.
     ///
     /// The memory grows by doubling, so that calls before each commit cost a constant for each
-    /// number in the long run.
-    /// Answers `NoMemory` where it cannot grow; then nothing has changed.
+    /// number in the long run. Answers `NoMemory` where it cannot grow; then nothing has changed.
     pub fn reserve(&mut self, spare: u32) -> Result<(), NoMemory>
         ensures ok { OnOk result (self.new ≡ record self.old { spare = max self.old.spare spare }) }
         ensures err { OnErr result (self.new ≡ self.old) }

@@ -92,8 +92,7 @@ fn shown(
 }
 
 // A step, and all that the map then shows. Changes are seen once they are applied, and applied
-// once;
-// what is forgotten is not made; what is prepared later stands in place of what was prepared
+// once; what is forgotten is not made; what is prepared later stands in place of what was prepared
 // before.
 const STEPS: &str = "prepare b=1 a= =>
 apply => a= b=1

@@ -9,12 +9,14 @@ fn worked_scripts(rt: HostRuntime) {
         (
             6,
             0,
-            "op 8 1 o2614 writefull 14057b7ef767814f\nget 5 o1849 read 0 0\nget 15 o1874 read 0 0\nget 16 o1473 read 0 0\nget 3 o250 read 0 0\nget 1 o2782 stat\n",
+            "op 8 1 o2614 writefull 14057b7ef767814f\nget 5 o1849 read 0 0\n\
+            get 15 o1874 read 0 0\nget 16 o1473 read 0 0\nget 3 o250 read 0 0\nget 1 o2782 stat\n",
         ),
         (
             3,
             1,
-            "op 4 1 o2548 writefull 6c576fac43fd007c\nget 7 o307 read 0 0\nop 1 3 o1393 append a5fae1992097aa0e\n",
+            "op 4 1 o2548 writefull 6c576fac43fd007c\nget 7 o307 read 0 0\n\
+            op 1 3 o1393 append a5fae1992097aa0e\n",
         ),
         (
             1,

@@ -30,11 +30,9 @@ impl<T: Drop> From<AllocFailed<T>> for NoMemory {
 /// The script of `count` lines that begins after the state `start`, as the bytes of its text.
 ///
 /// The state of a line is the one before it times 6364136223846793005 plus 1442695040888963407,
-/// modulo 2^64. Bits of the
-/// state choose the kind, the client from 1 to 16 and the name from `o0` to `o2999`; a write
-/// carries the state as sixteen
-/// lower-case hexadecimal digits and the line's number, from 1, as its request number. Equal
-/// arguments give equal scripts.
+/// modulo 2^64. Bits of the state choose the kind, the client from 1 to 16 and the name from `o0`
+/// to `o2999`; a write carries the state as sixteen lower-case hexadecimal digits and the line's
+/// number, from 1, as its request number. Equal arguments give equal scripts.
 ///
 /// The time is linear in `count`; the text grows in one buffer. Answers `NoMemory` where that
 /// cannot grow.
@@ -61,7 +59,8 @@ fn next_state(state: u64) -> u64
 
 // Appends the line at a place.
 fn push_line(script: &mut String, place: u32, state: u64) -> Result<(), NoMemory>
-    ensures { OnOk result (string_bytes script.new ≡ string_bytes script.old ++ line_of place state) }
+    ensures { OnOk result
+        (string_bytes script.new ≡ string_bytes script.old ++ line_of place state) }
 {
     let client = 1 + (state >> 24) % 16;
     let number = (state >> 32) % 3000;

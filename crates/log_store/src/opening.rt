@@ -23,7 +23,8 @@ const PAIR_PLACE: u64 = 14;
 
 // Restarts a disk and looks at its first bytes.
 fn look_anew<D: Disk>(disk: &mut D, role: Pool) -> Result<Front, DiskFault>
-    ensures front { IfOk result (λ front. Now (D.moments disk.new) (λ d. FrontIs role d.content front)) }
+    ensures front { IfOk result (λ front. Now (D.moments disk.new)
+        (λ d. FrontIs role d.content front)) }
     ensures restarted { OnOk result (Then (D.moments disk.old) (D.moments disk.new) Restarts) }
     ensures settled { OnOk result (Now (D.moments disk.new) IsSettled) }
     ensures stops { Leaves (D.moments disk.old) (D.moments disk.new) IsImage }
@@ -39,7 +40,8 @@ fn look_anew<D: Disk>(disk: &mut D, role: Pool) -> Result<Front, DiskFault>
 /// `BadImage` tells the first test that its head fails. What stands behind the head is not looked
 /// at.
 pub fn peek<D: Disk>(disk: &mut D, role: Pool) -> Result<Found, AttachFault>
-    ensures found { PeekEnds role (D.moments disk.old) (Rose (D.faults disk.old) (D.faults disk.new)) result }
+    ensures found { PeekEnds role (D.moments disk.old)
+        (Rose (D.faults disk.old) (D.faults disk.new)) result }
     ensures stops { Leaves (D.moments disk.old) (D.moments disk.new) IsImage }
     ensures later { D.faults disk.old ≤ D.faults disk.new }
 {
@@ -58,10 +60,11 @@ pub(crate) fn open<D: Disk>(
     role: Pool,
     pair: u64,
 ) -> Result<(Journal, PoolMap), AttachFault>
-    ensures opened { IfOk result (λ opened. SomeImage (D.moments disk.old) (OpensAs role pair (record {
-      table = opened.1.table;
-      used = opened.0.next + 1;
-    }))) }
+    ensures opened { IfOk result (λ opened. SomeImage (D.moments disk.old)
+        (OpensAs role pair (record {
+          table = opened.1.table;
+          used = opened.0.next + 1;
+        }))) }
     ensures journal { IfOk result (λ opened. IsLogJournal opened.0) }
     ensures rested { IfOk result (λ opened. opened.1.ready ≡ []) }
     ensures stands { IfOk result (λ opened. Now (D.moments disk.new)
@@ -110,10 +113,11 @@ pub(crate) fn reread<D: Disk>(
     role: Pool,
     pair: u64,
 ) -> Result<(Journal, PoolMap), StoreFault>
-    ensures read { IfOk result (λ opened. SomeImage (D.moments disk.old) (λ image. HoldsLog role pair image (record {
-      table = opened.1.table;
-      used = opened.0.next + 1;
-    }))) }
+    ensures read { IfOk result (λ opened. SomeImage (D.moments disk.old)
+        (λ image. HoldsLog role pair image (record {
+          table = opened.1.table;
+          used = opened.0.next + 1;
+        }))) }
     ensures journal { IfOk result (λ opened. IsLogJournal opened.0) }
     ensures rested { IfOk result (λ opened. opened.1.ready ≡ []) }
     ensures stands { IfOk result (λ opened. Now (D.moments disk.new)

@@ -90,7 +90,8 @@ fn change(pool: &mut PoolMap, past: &mut Vec<Moment>, used: u64, behind: u64)
       before = record { table = pool.old.table; used = used };
       after = record { table = changed_by pool.old.table pool.old.ready; used = behind };
     }) ∷ [] }
-    ensures room { vec_capacity past.new + vec_len past.old + 1 ≡ vec_capacity past.old + vec_len past.new }
+    ensures room { vec_capacity past.new + vec_len past.old + 1
+        ≡ vec_capacity past.old + vec_len past.new }
 {
     let before = Held::of(pool, used);
     pool.apply();
@@ -134,7 +135,8 @@ impl<D: Disk + Drop> LogStore<D> {
         ensures refused { IfErr result (λ e. Refused role pair (D.moments disk)
             (Rose (D.faults disk) (D.faults e.1)) e.0) }
         ensures kept { IfErr result (λ e. KeepsRefused (D.moments disk) (D.moments e.1) e.0) }
-        ensures stops_refused { IfErr result (λ e. Leaves (D.moments disk) (D.moments e.1) (OpeningStops role pair)) }
+        ensures stops_refused { IfErr result (λ e.
+            Leaves (D.moments disk) (D.moments e.1) (OpeningStops role pair)) }
         ensures later_refused { IfErr result (λ e. D.faults disk ≤ D.faults e.1) }
     {
         let mut disk = disk;
@@ -168,7 +170,8 @@ impl<D: Disk + Drop> LogStore<D> {
     pub fn into_disk(self) -> D
         ensures moments { D.moments result ≡ self.disk }
         ensures faults { D.faults result ≡ self.faults }
-        ensures holds { store.Now (store_of self) (EachHolds self.role self.pair (D.moments result)) }
+        ensures holds { store.Now (store_of self)
+            (EachHolds self.role self.pair (D.moments result)) }
     {
         let LogStore {
             alloc: _,
@@ -207,7 +210,8 @@ impl<D: Disk + Drop> Store for LogStore<D> {
 
     fn keys_after(&mut self, after: Option<&[u8]>, max: u32) -> Result<Items<Bytes>, StoreFault>
         requires { (store_of self.old).live ≡ true }
-        ensures listed { Listed (option_copied after.entry) max (store_of self.old) (store_of self.new) result }
+        ensures listed { Listed (option_copied after.entry) max
+            (store_of self.old) (store_of self.new) result }
         ensures sound { Sound (store_of self.new) }
         ensures same { self.new ≡ self.old }
     {

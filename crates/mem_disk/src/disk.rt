@@ -217,7 +217,8 @@ impl Disk for MemDisk {
 
     fn read_at(&mut self, off: u64, buf: &mut [u8]) -> Result<usize, DiskFault>
         ensures bound { IfOk result (λ n. n ≤ length buf.new) }
-        ensures bytes { IfOk result (λ n. Now (told self.old) (λ d. Reads off d n buf.old buf.new)) }
+        ensures bytes { IfOk result (λ n.
+            Now (told self.old) (λ d. Reads off d n buf.old buf.new)) }
         ensures same { told self.new ≡ told self.old }
         ensures image { Now (told self.new) (λ d. IsImage d d.content) }
         ensures cause { HasCause self.old.faults self.new.faults result }

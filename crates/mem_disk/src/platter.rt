@@ -105,8 +105,8 @@ impl Platter {
         requires least { min (length (last self.old).content) size ≤ part }
         requires most { part ≤ max (length (last self.old).content) size }
         requires sound { IsSound (last self.old) }
-        ensures ok { OnOk result (self.new ≡ self.old ++ trim size (resized part (last self.old).content)
-            (last self.old) ∷ []) }
+        ensures ok { OnOk result (self.new ≡ self.old
+            ++ trim size (resized part (last self.old).content) (last self.old) ∷ []) }
         ensures err { OnErr result (self.new ≡ self.old) }
         ensures sound { IsSound (last self.new) }
     {

@@ -15,8 +15,7 @@ const PRIME: u64 = 0x0000_0100_0000_01b3;
 /// The FNV-1a hash of 64 bits of `bytes`, of any length.
 ///
 /// Starting from the offset basis, each byte in turn is combined by exclusive or, and the result is
-/// multiplied by the
-/// prime modulo 2^64. Names that an enemy chooses can be made to collide.
+/// multiplied by the prime modulo 2^64. Names that an enemy chooses can be made to collide.
 pub fn fnv1a(bytes: &[u8]) -> u64
     ensures { result ≡ hash_of bytes.now }
 {

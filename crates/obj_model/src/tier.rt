@@ -24,8 +24,8 @@ pub enum HitType {
 }
 
 /// The values of a cache pool that an operator sets, under the names of the Ceph manual
-/// (`cache_mode` aside). Ratios are in
-/// millionths, ages and periods in seconds; a target of 0 is none.
+/// (`cache_mode` aside). Ratios are in millionths, ages and periods in seconds; a target of 0 is
+/// none.
 #[derive(Clone, Copy, Debug, PartialEq, Eq)]
 pub struct PoolValues {
     pub cache_mode: Mode,

@@ -1,8 +1,7 @@
 //! Objects, sub-operations and requests, on values that were worked out by hand from the rules:
-//! each kind on an absent
-//! and on a present object, each refusal, each limit at its last allowed and its first refused
-//! value. What the calls
-//! promise is proved where they are; these tables show that the promises are what was meant.
+//! each kind on an absent and on a present object, each refusal, each limit at its last allowed and
+//! its first refused value. What the calls promise is proved where they are; these tables show that
+//! the promises are what was meant.
 #![tactic(auto)]
 
 #[cfg(test)]

@@ -11,8 +11,7 @@ const FIRST: &str = "0000000000000001 0000000000000001 01 00000003 616263 0000 0
     0001 0001 0000000000000001 01 0000000000000001";
 
 // No object, seq 2, and two refused requests: of client 1 with tid 5, noent at 0; of client 256
-// with
-// tid 2^62, toobig 1048576 1048577 at 15.
+// with tid 2^62, toobig 1048576 1048577 at 15.
 const REFUSED: &str = "0000000000000000 0000000000000002 00
     0002 0001 0000000000000005 02 00 02 0000000000000000
     0100 4000000000000000 02 0f 07 0000000000100000 0000000000100001 0000000000000000";
@@ -76,13 +75,12 @@ fn refused_requests(rt: HostRuntime) -> Result<(), Fail> {
 
 // With 00, 01 and ff at each place of the first state, eight places a row: y where that spells a
 // state, n where not. `ver` is above `seq` but for 0 and 1; `seq` is below `ver` where its last
-// byte
-// is 0, and above 2^62 where its first is ff; the tag 0 leaves bytes over, and ff means nothing; of
-// the body's lengths 0 and 1 make two bytes of "abc" the number of attributes, and all others are
-// more than what is left; there are too many attributes or entries, or the first has a key of no
-// bytes; 0 kept requests leave bytes over, and with more than 1 the second is not there; 0, 257 and
-// 65281 are no clients; the tid is above 2^62 where its first byte is ff; the tags 0 and ff of a
-// reply mean nothing.
+// byte is 0, and above 2^62 where its first is ff; the tag 0 leaves bytes over, and ff means
+// nothing; of the body's lengths 0 and 1 make two bytes of "abc" the number of attributes, and all
+// others are more than what is left; there are too many attributes or entries, or the first has a
+// key of no bytes; 0 kept requests leave bytes over, and with more than 1 the second is not there;
+// 0, 257 and 65281 are no clients; the tid is above 2^62 where its first byte is ff; the tags 0 and
+// ff of a reply mean nothing.
 const FIRST_VERDICTS: &str = "yyyyyyyy nnnnnnny nnnnnnnn
 yyyyyyyn yyyyyyyy nyyyyyyy
 nyyynyyy ynnnnyyy nnnnnyyy

@@ -59,8 +59,8 @@ impl PoolMap {
     }
 
     /// The keys above this one (without one: all), in the order of their bytes, at most `max` of
-    /// them. The time is that of finding the
-    /// first, and for each key that is answered and each that is prepared but not yet there.
+    /// them. The time is that of finding the first, and for each key that is answered and each that
+    /// is prepared but not yet there.
     pub fn keys_after(&self, after: Option<&[u8]>, max: u32) -> Result<Items<Bytes>, NoMemory>
         ensures { IfOk result (λ keys. keys ≡ take max
             (keys_above (option_copied after.entry) self.now.table)) }
@@ -69,8 +69,7 @@ impl PoolMap {
     }
 
     /// Takes all memory that these changes need, in place of those that were prepared before. The
-    /// map stays. After `NoMemory` no change is
-    /// prepared.
+    /// map stays. After `NoMemory` no change is prepared.
     pub fn prepare(&mut self, changes: Vec<Change>) -> Result<(), NoMemory>
         requires { AreApart changes.items }
         ensures same { self.new.table ≡ self.old.table }

@@ -108,8 +108,8 @@ impl Slots {
         ensures kept { filled self.new ≡ filled self.old }
         ensures made { OnOk result (IsSome (fin.get self.new key.now)) }
         ensures stays { (other : Change) → HasRoom self.old other → HasRoom self.new other }
-        ensures tidy { (changes : List Change) → puts key.now changes ≡ true → IsTidy self.old changes
-            → IsTidy self.new changes }
+        ensures tidy { (changes : List Change) → puts key.now changes ≡ true
+            → IsTidy self.old changes → IsTidy self.new changes }
     {
         if self.slot(key.as_slice()).is_some() {
             return Ok(());
@@ -123,8 +123,8 @@ impl Slots {
         ensures kept { filled self.new ≡ filled self.old }
         ensures made { OnOk result (HasRoom self.new change.now) }
         ensures stays { (other : Change) → HasRoom self.old other → HasRoom self.new other }
-        ensures tidy { (changes : List Change) → IsCovered changes change.now → IsTidy self.old changes
-            → IsTidy self.new changes }
+        ensures tidy { (changes : List Change) → IsCovered changes change.now
+            → IsTidy self.old changes → IsTidy self.new changes }
     {
         match change {
             Change::Put { key, .. } => self.make_slot(key),
@@ -133,8 +133,8 @@ impl Slots {
     }
 
     /// Sees to it that each of these changes finds room, or says that there is not the memory for
-    /// it. The map that the slots hold
-    /// stays. If no slot was empty, then each that is now is room for one of the changes.
+    /// it. The map that the slots hold stays. If no slot was empty, then each that is now is room
+    /// for one of the changes.
     pub fn make_rooms(&mut self, changes: &[Change]) -> Result<(), NoMemory>
         ensures kept { filled self.new ≡ filled self.old }
         ensures made { OnOk result (All (HasRoom self.new) changes.now) }
@@ -156,8 +156,8 @@ impl Slots {
     // Takes a key's slot out, if it is empty. The map that the slots hold stays.
     fn take_slot(&mut self, key: &[u8])
         ensures kept { filled self.new ≡ filled self.old }
-        ensures tidy { (value : List ℕ) (changes : List Change) → IsTidy self.old (Put key.now value ∷ changes)
-            → IsTidy self.new changes }
+        ensures tidy { (value : List ℕ) (changes : List Change)
+            → IsTidy self.old (Put key.now value ∷ changes) → IsTidy self.new changes }
     {
         if self.is_room(key) {
             self.take(key);

@@ -183,8 +183,8 @@ fn state_or_none(alloc: Global, bytes: &[u8]) -> Result<Option<NameState>, NoMem
 }
 
 /// The state that the bytes, all of them, spell, or nothing where they spell none. It takes no more
-/// memory than a
-/// small multiple of the bytes, whatever they are, and an error is want of memory alone.
+/// memory than a small multiple of the bytes, whatever they are, and an error is want of memory
+/// alone.
 pub fn read_state(alloc: Global, bytes: &[u8]) -> Result<Option<NameState>, NoMemory>
     // What is read is spelled so.
     ensures found { IfOk result (λ o. IfSome o (λ s. SpellsState bytes.now s)) }

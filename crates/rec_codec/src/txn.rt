@@ -137,9 +137,8 @@ fn txn_or_none(alloc: Global, bytes: &[u8]) -> Result<Option<Vec<Change>>, NoMem
 }
 
 /// The changes of the transaction that the bytes, all of them, spell, or nothing where they spell
-/// none. It takes no
-/// more memory than a small multiple of the bytes, whatever they are, and an error is want of
-/// memory alone.
+/// none. It takes no more memory than a small multiple of the bytes, whatever they are, and an
+/// error is want of memory alone.
 pub fn read_txn(alloc: Global, bytes: &[u8]) -> Result<Option<Vec<Change>>, NoMemory>
     // What is read is spelled so.
     ensures found { IfOk result (λ o. IfSome o (λ v. SpellsTxn bytes.now v.items)) }

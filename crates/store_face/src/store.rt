@@ -39,7 +39,8 @@ pub trait Store: Drop {
     /// them.
     fn keys_after(&mut self, after: Option<&[u8]>, max: u32) -> Result<Items<Bytes>, StoreFault>
         requires { (state self.old).live ≡ true }
-        ensures listed { Listed (option_copied after.entry) max (state self.old) (state self.new) result }
+        ensures listed { Listed (option_copied after.entry) max
+            (state self.old) (state self.new) result }
         ensures sound { Sound (state self.new) };
 
     /// Makes 1 to 8 changes on distinct keys, all of them or none: at each moment a crash leaves

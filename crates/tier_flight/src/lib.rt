@@ -2,11 +2,10 @@
 //! end.
 //!
 //! Promises that `busy` is the busy table exactly, cell by cell; that `add` puts work on a free
-//! name
-//! or reads behind the reads that stand there, and changes nothing where memory is missing; and
-//! that
-//! `leave` takes a call out of the work on a name and leaves all other work as it was: a flush that
-//! was begun alone stays. Callers see `Flights` as the finite map from names to their work.
+//! name or reads behind the reads that stand there, and changes nothing where memory is missing;
+//! and that `leave` takes a call out of the work on a name and leaves all other work as it was: a
+//! flush that was begun alone stays. Callers see `Flights` as the finite map from names to their
+//! work.
 #![tactic(auto)]
 
 mod busy;

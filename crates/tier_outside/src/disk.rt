@@ -28,7 +28,8 @@ pub trait Disk {
     /// anything; the disk is as it was.
     fn read_at(&mut self, off: u64, buf: &mut [u8]) -> Result<usize, DiskFault>
         ensures bound { IfOk result (λ n. n ≤ length buf.new) }
-        ensures bytes { IfOk result (λ n. Now (moments self.old) (λ d. Reads off d n buf.old buf.new)) }
+        ensures bytes { IfOk result (λ n.
+            Now (moments self.old) (λ d. Reads off d n buf.old buf.new)) }
         ensures same { moments self.new ≡ moments self.old }
         ensures image { Now (moments self.new) (λ d. IsImage d d.content) }
         ensures cause { HasCause (faults self.old) (faults self.new) result };

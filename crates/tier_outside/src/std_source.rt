@@ -33,7 +33,8 @@ impl<R: Read> Model for StdSource<R> {
       faults = s.faults;
     } };
 
-    ghost invariant = { λ s. IfSome (R.remaining s.start.value) (λ _. IsSome (R.remaining s.inner)) };
+    ghost invariant = { λ s.
+        IfSome (R.remaining s.start.value) (λ _. IsSome (R.remaining s.inner)) };
 }
 
 impl<R: Read> StdSource<R> {

@@ -9,8 +9,8 @@ const ROOM: u64 = 4096;
 
 const TWO: &[u8] = b"op 1 1 a writefull 616263\nget 1 a read 0 0\n";
 
-const EIGHT: &[u8] =
-    b"op 1 1 a writefull 61\nop 1 2 a remove\nop 1 2 a remove\nop 1 1 a remove\nget 1 a read 0 0\nop 1 1 b writefull -\nget 1 b read 0 0\nop 1 3 a writefull 62\n";
+const EIGHT: &[u8] = b"op 1 1 a writefull 61\nop 1 2 a remove\nop 1 2 a remove\nop 1 1 a remove\n\
+    get 1 a read 0 0\nop 1 1 b writefull -\nget 1 b read 0 0\nop 1 3 a writefull 62\n";
 
 const EIGHT_TEXTS: [&[u8]; 8] = [
     b"1 done v1 @1\n",
@@ -213,7 +213,8 @@ fn an_unreadable_name(rt: HostRuntime) -> Result<(), Fail> {
     let mut base = memory(
         &rt,
         alloc,
-        b"\x01\0\0\0\x11RTLOG001\x02\0\0\0\0\0\0\x01\x01\x01\0\0\0\x0b\x01\x01\0\x02Na\0\0\0\x01h\0",
+        b"\x01\0\0\0\x11RTLOG001\x02\0\0\0\0\0\0\x01\
+        \x01\x01\0\0\0\x0b\x01\x01\0\x02Na\0\0\0\x01h\0",
         None,
         0,
         Pick::Old,
