@@ -9,3 +9,4 @@ pub mod Keeping
 pub mod Histories
 pub mod Faithful
 pub mod Guides
+pub mod Lasting
