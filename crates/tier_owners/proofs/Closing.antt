@@ -17,7 +17,7 @@ use Rattle.tier_protocol.proofs.Cells.{flight_here, flight_there, same_or_not}
 use Rattle.tier_protocol.proofs.Names.{spent_then}
 use Rattle.tier_protocol.proofs.Owners.{free_not_write, one_asked, same_call}
 use Rattle.tier_protocol.proofs.Requests.{spent_of}
-use Rattle.tier_owners.specs.Calls.{AdoptersMayClose, AnsweredHereMayClose, AskingKeepsOwners, BlockedMayClose, ClosingKeepsOwners, FoundIsOwned, HasAsked, LandedMayClose, OwningNothingMayClose, OwnsNothing, ReadersMayClose, UnsentMayClose}
+use Rattle.tier_owners.specs.Calls.{AdoptersMayClose, AnsweredHereMayClose, AskingKeepsOwners, BlockedMayClose, ClosingKeepsOwners, FoundIsOwned, HasAsked, LandedMayClose, OwningNothingMayClose, ReadersMayClose, UnsentMayClose}
 use Rattle.tier_owners.proofs.Spent.{spent_over_record}
 
 pub found_owned : FoundIsOwned

@@ -1,11 +1,11 @@
 -- Epochs over runs, and what is refused from then on.
-use Rattle.std.proofs.Common.{◌≡◌, List, [], ◌∷◌, sym, ap, subst, arith, inl, inr}
-use Rattle.tier_protocol.specs.Tiers.{BaseMsg, BaseReply, Flight, IsIn}
+use Rattle.std.proofs.Common.{[], ◌∷◌, sym, subst, arith, inl, inr}
+use Rattle.tier_protocol.specs.Tiers.{BaseMsg, BaseReply, Flight}
 use Rattle.tier_protocol.specs.Rising.{EpochsRise}
 use Rattle.tier_protocol.proofs.Climbs.{epochs_only_rise, rises_join}
 use Rattle.tier_protocol.proofs.Truth.{old_refused}
 use Rattle.tier_owners.specs.Aging.{EpochsRiseOnRuns, MovesRise, OldStayRefused, ToldStayRefused}
-use Rattle.tier_owners.specs.Moving.{IsRun, Moves, System, delivers, acts_there, fills, acts_here, gathers, promotes, cleans, drains, evicts, begins_write, begins, sends_write, sends, lands, loses, stops_cache, stops_base, raises, finds, counts, goes_up, asks, closes}
+use Rattle.tier_owners.specs.Moving.{System, delivers, acts_there, fills, acts_here, gathers, promotes, cleans, drains, evicts, begins_write, begins, sends_write, sends, lands, loses, stops_cache, stops_base, raises, finds, counts, goes_up, asks, closes}
 
 stays : (s : System) → EpochsRise s.tier.net s.tier.net
 stays s = record { cache = omega arith; base = omega arith }

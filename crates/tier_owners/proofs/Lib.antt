@@ -10,3 +10,4 @@ pub mod Histories
 pub mod Faithful
 pub mod Guides
 pub mod Lasting
+pub mod Courses

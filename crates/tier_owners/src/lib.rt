@@ -25,7 +25,9 @@ pub use quieting::{
     beginning_is_quiet, cleaning_is_quiet, evicting_is_quiet, filling_is_quiet, gathering_is_quiet,
     going_up_is_quiet, landing_is_quiet, promoting_is_quiet, raising_is_quiet, replying_is_quiet,
 };
-pub use reaching::{starts_run, writes_run};
+pub use reaching::{
+    found_raises_run, promotes_run, reads_run, records_run, starts_run, writes_run,
+};
 pub use running::{
     closed_act_no_more, history_grows, legal_act_once, moves_keep, runs_are_faithful, runs_keep,
     taken_is_lost,
