@@ -26,11 +26,11 @@ use Rattle.tier_owners.proofs.Keeping.{moves_keep}
 
 -- ---- runs, a move at a time
 
-after_one : (s u : System) (P : System → Type 0) → Moves s u → P u → Reaches s P
+pub after_one : (s u : System) (P : System → Type 0) → Moves s u → P u → Reaches s P
 after_one s u P m h =
     record { moments = u ∷ []; run = (m, tt); last = u; on = inl refl; holds = h }
 
-after_more : (s u : System) (P : System → Type 0) → Moves s u → Reaches u P → Reaches s P
+pub after_more : (s u : System) (P : System → Type 0) → Moves s u → Reaches u P → Reaches s P
 after_more s u P m r = record {
   moments = u ∷ r.moments;
   run = (m, r.run);

@@ -11,3 +11,4 @@ pub mod Faithful
 pub mod Guides
 pub mod Lasting
 pub mod Courses
+pub mod Lives

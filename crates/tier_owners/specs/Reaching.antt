@@ -1,5 +1,7 @@
 -- Runs that exist: the moves fit one another, so that the laws over runs are not of nothing.
-use Rattle.std.specs.Prelude.{◌≡◌, ◌≢◌, ℕ, true, false, List, [], ◌∷◌, ◌++◌, Some, None}
+use Rattle.std.specs.Prelude.{◌≡◌, ◌≢◌, ◌<◌, ℕ, ◌+◌, true, false, List, [], ◌∷◌, ◌++◌, Some, None}
+use Rattle.std.specs.FinMap as fin
+use Rattle.obj_model.specs.States.{unknown}
 use Rattle.obj_model.specs.declared.reply.Reply.{Reply}
 use Rattle.obj_model.specs.declared.req.Req.{Req}
 use Rattle.obj_model.specs.declared.state.NameState.{NameState}
@@ -7,11 +9,13 @@ use Rattle.obj_ops.specs.declared.request.Acted.TheVariants.{Fresh}
 use Rattle.obj_ops.specs.Acts.{act, look}
 use Rattle.obj_ops.specs.Stores.{state_of}
 use Rattle.tier_types.specs.Flights.{name_asked}
-use Rattle.tier_protocol.specs.Tiers.{Name, Ask, BaseReply, Flight, Phase, ReadFlight, TierRec, IsIn, cell_of}
+use Rattle.tier_types.specs.Serving.{epoch_in, opid_in}
+use Rattle.tier_protocol.specs.Tiers.{Name, Ask, BaseMsg, BaseReply, Flight, Phase, ReadFlight, TierRec, IsIn, cell_of}
 use Rattle.tier_protocol.specs.Moves.{MayCount, MayRaise}
 use Rattle.tier_protocol.specs.Owners.{IsOpen}
 use Rattle.tier_owners.specs.Calls.{HasAsked}
 use Rattle.tier_owners.specs.Moving.{IsHeld, IsRun, System}
+use Rattle.tier_owners.specs.Runs.{attached}
 
 -- some run leads to a moment of which this holds
 pub record Reaches (s : System) (P : System → Type 0) : Type 0 where
@@ -97,3 +101,29 @@ FoundRaisesRun =
     (u.tier.net.cache_epoch ≡ e) × MayCount u.tier
     × Reaches u (λ v.
     (v.tier.net.phase ≡ Phase.Up) × (v.tier.net.cache_epoch ≡ e) × (v.tier.net.base_epoch ≡ e)))
+
+-- A dirty record that nothing is under way on: a run drains it, so that the base alone has its
+-- state.
+abbrev pub DrainsRun : Type 0
+DrainsRun =
+    (s : System) (k : Name) (rec : TierRec) → IsHeld s → s.tier.net.phase ≡ Phase.Up
+    → (cell_of s.tier k).rec ≡ Some rec → rec.dirty ≡ true → (cell_of s.tier k).flight ≡ None
+    → Reaches s (λ u. ((cell_of u.tier k).rec ≡ None) × (state_of u.tier.base k ≡ rec.state))
+
+-- The commit of a message that is on the wire may find no space.
+abbrev pub FillsRun : Type 0
+FillsRun =
+    (s : System) (m : BaseMsg) (used need limit : ℕ) → IsIn m s.tier.net.wire → limit < used + need
+    → Reaches s (λ u.
+    IsIn (BaseReply.NoSpace (epoch_in m) (opid_in m) used need limit) u.tier.net.replies)
+
+-- From two empty pools as they are attached, with no call yet, a run leads through the start of the
+-- cache to the answer of a first call, which asks a write request that acts on a name that was
+-- never written.
+abbrev pub EmptyPairsRun : Type 0
+EmptyPairsRun =
+    (call line : ℕ) (r : Req) (state : NameState) (answer : Reply)
+    → act unknown r ≡ Fresh state answer
+    → Reaches (attached fin.empty fin.empty fin.empty 0 0) (λ u.
+    (u.ledger.acts ≡ record { call = call; line = line; req = r; reply = answer } ∷ [])
+    × (u.ledger.closed call ≡ true))

@@ -26,7 +26,8 @@ pub use quieting::{
     going_up_is_quiet, landing_is_quiet, promoting_is_quiet, raising_is_quiet, replying_is_quiet,
 };
 pub use reaching::{
-    found_raises_run, promotes_run, reads_run, records_run, starts_run, writes_run,
+    drains_run, empty_pairs_run, fills_run, found_raises_run, promotes_run, reads_run, records_run,
+    starts_run, writes_run,
 };
 pub use running::{
     closed_act_no_more, history_grows, legal_act_once, moves_keep, runs_are_faithful, runs_keep,

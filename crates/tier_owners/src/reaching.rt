@@ -1,5 +1,5 @@
 //! Runs that exist, so that the laws over runs are not of nothing.
-ghost use Rattle.tier_owners.specs.Reaching.{FoundRaisesRun, PromotesRun, ReadsRun, RecordsRun, StartsRun, WritesRun};
+ghost use Rattle.tier_owners.specs.Reaching.{DrainsRun, EmptyPairsRun, FillsRun, FoundRaisesRun, PromotesRun, ReadsRun, RecordsRun, StartsRun, WritesRun};
 
 /// From a stop a run leads to a cache that is up, whatever is on the wire.
 pub fn starts_run()
@@ -31,4 +31,19 @@ pub fn records_run()
 /// A raise that is found after a doubt counts, and a run leads from it to a cache that is up.
 pub fn found_raises_run()
     ensures { FoundRaisesRun }
+{}
+
+/// From a dirty record a run leads to its drain.
+pub fn drains_run()
+    ensures { DrainsRun }
+{}
+
+/// The commit of a message that is on the wire may find no space.
+pub fn fills_run()
+    ensures { FillsRun }
+{}
+
+/// From two empty pools that are attached a run leads to a first answer, by an act.
+pub fn empty_pairs_run()
+    ensures { EmptyPairsRun }
 {}
