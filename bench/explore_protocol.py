@@ -1,5 +1,6 @@
 #!/usr/bin/env python3
-"""Walks small systems of the protocol between the two pools and tests each clause that holds.
+"""Walks small systems of the protocol between the two pools and tests each clause that holds, and
+of each move that it takes no epoch back.
 
     explore_protocol.py all DEPTH            every run of one name up to this many moves
     explore_protocol.py random RUNS MOVES    random runs over two names
@@ -52,6 +53,13 @@ def started(names):
 
 # ---- runs
 
+def fallen(system, after):
+    """The pools whose epoch the move takes back, below every world of before."""
+    return [pool + " falls" for pool in ("cache_epoch", "base_epoch")
+            if min(getattr(world, pool) for world in after.worlds)
+            < min(getattr(world, pool) for world in system.worlds)]
+
+
 def all_runs(names, depth, most, test=broken, speaks=False):
     first = started(names)
     before, level = {first: None}, [first]
@@ -62,7 +70,7 @@ def all_runs(names, depth, most, test=broken, speaks=False):
                 if after in before:
                     continue
                 before[after] = (system, label)
-                wrong = test(after)
+                wrong = test(after) or fallen(system, after)
                 if wrong:
                     run = [label]
                     while before[system] is not None:
@@ -89,9 +97,10 @@ def random_run(names, length, rng, calmness, test=broken):
         calm = [c for c in choices if not c[0].startswith(wild) and not c[0].endswith("doubt")]
         if calm and rng.random() < calmness:
             choices = calm
+        before = system
         label, system = rng.choice(choices)
         run.append(label)
-        wrong = test(system)
+        wrong = test(system) or fallen(before, system)
         if wrong:
             return run, wrong, system
     return run, None, system

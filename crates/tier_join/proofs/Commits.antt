@@ -20,11 +20,11 @@ use Rattle.tier_join.proofs.Left.{FromLeft, made_left, made_since, now_since, re
 -- ---- two stores, of which one changes
 
 -- a pair of maps that is left, with changes in one pool
-abbrev ComesFrom : Pool → List Change → View → TwoMaps → Type 0
+abbrev pub ComesFrom : Pool → List Change → View → TwoMaps → Type 0
 ComesFrom pool cs v z = (y : TwoMaps) × AreLeft v y × (z ≡ changed_in pool cs y)
 
 -- since a commit in one pool began, by what a stop leaves of that pool
-since_in : (pool : Pool) (cs : List Change) (v : View) (s : StoreView) → ((t : Table) → IsLeftSince (store_in pool v) s t → IsLeft (store_in pool v) t ⊎ FromLeft cs (store_in pool v) t)
+pub since_in : (pool : Pool) (cs : List Change) (v : View) (s : StoreView) → ((t : Table) → IsLeftSince (store_in pool v) s t → IsLeft (store_in pool v) t ⊎ FromLeft cs (store_in pool v) t)
     → (z : TwoMaps) → AreLeftSince v (with_store pool s v) z → AreLeft v z ⊎ ComesFrom pool cs v z
 since_in Cache cs v s leaves z i =
     let other = rests_since v.base v.base refl z.base i.1 in
@@ -51,7 +51,7 @@ same_in : (pool : Pool) (v : View) (s : StoreView) → s.moments ≡ (store_in p
 same_in Cache v s same z i = (rests_left v.cache s same z.cache i.0, i.1)
 same_in Base v s same z i = (i.0, rests_left v.base s same z.base i.1)
 
-same_since_in : (pool : Pool) (v : View) (s : StoreView) → s.moments ≡ (store_in pool v).moments → (z : TwoMaps) → AreLeftSince v (with_store pool s v) z → AreLeft v z
+pub same_since_in : (pool : Pool) (v : View) (s : StoreView) → s.moments ≡ (store_in pool v).moments → (z : TwoMaps) → AreLeftSince v (with_store pool s v) z → AreLeft v z
 same_since_in Cache v s same z i = (rests_since v.cache s same z.cache i.0, rests_since v.base v.base refl z.base i.1)
 same_since_in Base v s same z i = (rests_since v.cache v.cache refl z.cache i.0, rests_since v.base s same z.base i.1)
 
@@ -99,12 +99,12 @@ stands start m z h = (
 -- ---- the three things that may come of a commit
 
 -- it was made; the disk failed; or no map changed
-abbrev Came : List Change → Doubt → (old new : StoreView) → Outcome → Type 0
+abbrev pub Came : List Change → Doubt → (old new : StoreView) → Outcome → Type 0
 Came cs d old new result =
     ((result ≡ Ok tt) × Made cs old new) ⊎ ((result ≡ Err Disk) × MayBeMade cs old new)
     ⊎ ((fault : StoreFault) × (result ≡ Err fault) × (doubt_after result d ≡ None) × (new.moments ≡ old.moments))
 
-came : (cs : List Change) (d : Doubt) (old new : StoreView) (result : Outcome) → Committed cs old new result → Came cs d old new result
+pub came : (cs : List Change) (d : Doubt) (old new : StoreView) (result : Outcome) → Committed cs old new result → Came cs d old new result
 came cs d old new (Ok made) h = inl (refl, h)
 came cs d old new (Err Disk) h = inr (inl (refl, h))
 came cs d old new (Err (BadImage at)) h = absurd h

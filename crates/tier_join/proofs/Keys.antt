@@ -20,10 +20,10 @@ use Rattle.tier_join.specs.Steps.{sets}
 key_apart : (k : ℕ) (q name : Name) → q ≢ name → k ∷ q ≢ k ∷ name
 key_apart k q name ne e = let f : q ≡ name = cc in ne f
 
-record_off : (name : Name) → epoch_key ≢ record_key name
+pub record_off : (name : Name) → epoch_key ≢ record_key name
 record_off name e = let f : ◌≡◌ {A = ℕ} 0x45 0x52 = cc in absurd (omega (arith, f))
 
-state_off : (name : Name) → epoch_key ≢ state_key name
+pub state_off : (name : Name) → epoch_key ≢ state_key name
 state_off name e = let f : ◌≡◌ {A = ℕ} 0x45 0x4e = cc in absurd (omega (arith, f))
 
 pub set_is : (t : Table) (key : List ℕ) (o : Option (List ℕ)) → changed_by t (sets key o) ≡ set_at t key o

@@ -11,3 +11,5 @@ pub mod Telling
 pub mod Groups
 pub mod Seeing
 pub mod Empty
+pub mod Lasting
+pub mod Ages

@@ -37,7 +37,7 @@ was_left : (pool : Pool) (v : View) (s : StoreView) → Among (store_in pool v) 
 was_left Cache v s among z i = (among_since v.cache s among z.cache (now_since v.cache s _ among z.cache i.0), i.1)
 was_left Base v s among z i = (i.0, among_since v.base s among z.base (now_since v.base s _ among z.base i.1))
 
-was_left_since : (pool : Pool) (v : View) (s : StoreView) → Among (store_in pool v) s → (z : TwoMaps) → AreLeftSince v (with_store pool s v) z → AreLeft v z
+pub was_left_since : (pool : Pool) (v : View) (s : StoreView) → Among (store_in pool v) s → (z : TwoMaps) → AreLeftSince v (with_store pool s v) z → AreLeft v z
 was_left_since Cache v s among z i = (among_since v.cache s among z.cache i.0, rests_since v.base v.base refl z.base i.1)
 was_left_since Base v s among z i = (rests_since v.cache v.cache refl z.cache i.0, among_since v.base s among z.base i.1)
 
@@ -193,7 +193,7 @@ module _ (v w : View) where
   settles_stores (Doubt.Epoch Base e) (inr h) = (ap (λ u. u.cache) h.1, ap (λ u. u.base) h.1)
 
   module _ (pool : Pool) (opens : Opens pool v w) where
-    stores : (w.cache ≡ (with_store pool (store_in pool w) v).cache) × (w.base ≡ (with_store pool (store_in pool w) v).base)
+    pub stores : (w.cache ≡ (with_store pool (store_in pool w) v).cache) × (w.base ≡ (with_store pool (store_in pool w) v).base)
     stores = elim opens.settles [
       | inl same ↦ stores_by pool same
       | inr d ↦ subst (λ p. (w.cache ≡ (with_store p (store_in p w) v).cache) × (w.base ≡ (with_store p (store_in p w) v).base)) d.2 (settles_stores d.0 d.3)

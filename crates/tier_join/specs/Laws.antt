@@ -38,8 +38,7 @@ AreSteps v [] = Unit {0}
 AreSteps v (w ∷ ws) = ((other : Store → Store) × Promises other v w) × AreSteps w ws
 
 -- So it holds in each moment of every run of steps; a store at which the group began stays one, and
--- no
--- act of the history is forgotten or changed.
+-- no act of the history is forgotten or changed.
 abbrev pub RunsGoOn : Type 0
 RunsGoOn =
     (v : View) (ws : List View) → AreSteps v ws → (w : View) → IsIn w ws

@@ -4,3 +4,4 @@ pub mod Steps
 pub mod Laws
 pub mod Ends
 pub mod Seen
+pub mod Rising

@@ -14,6 +14,7 @@ mod ends;
 mod general;
 mod memory;
 mod opening;
+mod rising;
 
 pub use base::{answering_promises, fencing_promises, putting_promises};
 pub use cache::{
@@ -35,3 +36,7 @@ pub use memory::{
     sending_promises, stopping_promises,
 };
 pub use opening::{opening_promises, reopenings_are_among};
+pub use rising::{
+    commits_rise, each_step_rises, epochs_never_fall, left_are_at_least, maps_never_fall,
+    old_answers_stay, rests_rise, rising_steps_join,
+};

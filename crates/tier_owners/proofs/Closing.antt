@@ -17,7 +17,7 @@ use Rattle.tier_protocol.proofs.Cells.{flight_here, flight_there, same_or_not}
 use Rattle.tier_protocol.proofs.Names.{spent_then}
 use Rattle.tier_protocol.proofs.Owners.{free_not_write, one_asked, same_call}
 use Rattle.tier_protocol.proofs.Requests.{spent_of}
-use Rattle.tier_owners.specs.Calls.{AnsweredHereMayClose, AskingKeepsOwners, ClosingKeepsOwners, FoundIsOwned, HasAsked, LandedMayClose, ReadersMayClose, UnsentMayClose}
+use Rattle.tier_owners.specs.Calls.{AdoptersMayClose, AnsweredHereMayClose, AskingKeepsOwners, BlockedMayClose, ClosingKeepsOwners, FoundIsOwned, HasAsked, LandedMayClose, OwningNothingMayClose, ReadersMayClose, UnsentMayClose}
 use Rattle.tier_owners.proofs.Spent.{spent_over_record}
 
 pub found_owned : FoundIsOwned
@@ -206,3 +206,44 @@ unsent_closes t l call line r w asked idle unsent h = record {
       absurd (cc);
   spent = λ o is mine on above. absurd (unsent o is mine);
 }
+
+pub owning_nothing_closes : OwningNothingMayClose
+owning_nothing_closes t l call line r h w asked owns = record {
+  idle = λ n d op q f.
+      let at : n ≡ r.name = asked_name t l call line r h w asked n d op q f in
+      owns.idle d op q
+      (subst (λ m. (cell_of t m).flight ≡ Some (Flight.Write d call op q)) at f);
+  spent = λ o is mine on above. absurd (owns.silent o is mine on above);
+}
+
+-- a name has one owner of its write request
+other_owner : (f : Option Flight) (d e : Option ℕ) (owner call i j : ℕ) (q r : Req)
+    → f ≡ Some (Flight.Write d owner i q) → f ≡ Some (Flight.Write e call j r) → owner ≡ call
+other_owner f d e owner call i j q r was is =
+    let same : ◌≡◌ {A = Option Flight} (Some (Flight.Write d owner i q))
+    (Some (Flight.Write e call j r)) = sym was ∙ is in
+    cc
+
+pub blocked_closes : BlockedMayClose
+blocked_closes t l call line r d owner op q h w asked f other silent =
+    owning_nothing_closes t l call line r h w asked (record {
+      idle = λ e j x g.
+          other (other_owner (cell_of t r.name).flight d e owner call op j q x f g);
+      silent = λ o is mine on above. silent o is mine on;
+    })
+
+pub adopters_close : AdoptersMayClose
+adopters_close t l call line r owner op q b h w asked may other silent =
+    let was = blocked_closes t l call line r (Some call) owner op q h w asked may.flight other
+    silent in
+    record {
+      idle = λ n d j x f. elim (same_or_not n r.name) [
+        | inl is ↦ free_not_write (cell_of (landed r.name t) r.name).flight d call j x
+            (ap (λ c. c.flight) (flight_here t r.name None))
+            (subst (λ m. (cell_of (landed r.name t) m).flight ≡ Some (Flight.Write d call j x))
+            is f)
+        | inr ne ↦ was.idle n d j x
+            (sym (ap (λ c. c.flight) (flight_there t r.name None n ne)) ∙ f)
+      ];
+      spent = λ o is mine on above. absurd (silent o is mine on);
+    }

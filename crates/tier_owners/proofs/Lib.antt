@@ -9,3 +9,6 @@ pub mod Keeping
 pub mod Histories
 pub mod Faithful
 pub mod Guides
+pub mod Lasting
+pub mod Courses
+pub mod Lives

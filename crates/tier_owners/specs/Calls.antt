@@ -142,3 +142,38 @@ UnsentMayClose =
     (t : Tier) (l : Ledger) (call line : ℕ) (r : Req) → SoundOwners t l → HasAsked l call line r
     → is_write (cell_of t r.name).flight ≡ false
     → ((o : Owned) → IsIn o l.owned → o.call ≢ call) → IsSound t → MayClose t l call
+
+-- The call owns no write request under way on this name, and no Write of it that the base would
+-- take is on the wire.
+pub record OwnsNothing (t : Tier) (l : Ledger) (call : ℕ) (n : Name) : Type 0 where
+  pub idle : (driver : Option ℕ) (op : ℕ) (r : Req)
+      → (cell_of t n).flight ≡ Some (Flight.Write driver call op r) → ⊥
+  pub silent : (o : Owned) → IsIn o l.owned → o.call ≡ call
+      → IsIn (BaseMsg.Write o.epoch o.opid o.req) t.net.wire → t.net.base_epoch ≤ o.epoch → ⊥
+
+-- A call that owns nothing on its request's name may be answered for good, whatever work of others
+-- stands there.
+abbrev pub OwningNothingMayClose : Type 0
+OwningNothingMayClose =
+    (t : Tier) (l : Ledger) (call line : ℕ) (r : Req) → IsSound t → SoundOwners t l
+    → HasAsked l call line r → OwnsNothing t l call r.name → MayClose t l call
+
+-- So may a call that was turned away, since a write request of another call stands on its name.
+abbrev pub BlockedMayClose : Type 0
+BlockedMayClose =
+    (t : Tier) (l : Ledger) (call line : ℕ) (r : Req) (driver : Option ℕ) (owner op : ℕ) (q : Req)
+    → IsSound t → SoundOwners t l → HasAsked l call line r
+    → (cell_of t r.name).flight ≡ Some (Flight.Write driver owner op q) → owner ≢ call
+    → ((o : Owned) → IsIn o l.owned → o.call ≡ call
+    → IsIn (BaseMsg.Write o.epoch o.opid o.req) t.net.wire → ⊥)
+    → MayClose t l call
+
+-- And so may a call that drove another call's write request, once this has landed.
+abbrev pub AdoptersMayClose : Type 0
+AdoptersMayClose =
+    (t : Tier) (l : Ledger) (call line : ℕ) (r : Req) (owner op : ℕ) (q : Req) (b : BaseActed)
+    → IsSound t → SoundOwners t l → HasAsked l call line r
+    → MayLand t r.name (Some call) owner op q b → owner ≢ call
+    → ((o : Owned) → IsIn o l.owned → o.call ≡ call
+    → IsIn (BaseMsg.Write o.epoch o.opid o.req) t.net.wire → ⊥)
+    → MayClose (landed r.name t) l call

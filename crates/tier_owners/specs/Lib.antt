@@ -3,3 +3,4 @@ pub mod Moving
 pub mod Runs
 pub mod Reaching
 pub mod QuietMoves
+pub mod Aging

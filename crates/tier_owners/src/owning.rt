@@ -1,5 +1,5 @@
 //! Each move keeps whose act each Write will be; and where a call may be answered for good.
-ghost use Rattle.tier_owners.specs.Calls.{ActingKeepsOwners, AnsweredHereMayClose, AskingKeepsOwners, BeginningKeepsOwners, ClosingKeepsOwners, CountingKeepsOwners, DeliveringKeepsOwners, FoundIsOwned, LandedMayClose, ReadersMayClose, SendingKeepsOwners, UnsentMayClose, WritingKeepsOwners};
+ghost use Rattle.tier_owners.specs.Calls.{ActingKeepsOwners, AdoptersMayClose, AnsweredHereMayClose, AskingKeepsOwners, BeginningKeepsOwners, BlockedMayClose, ClosingKeepsOwners, CountingKeepsOwners, DeliveringKeepsOwners, FoundIsOwned, LandedMayClose, OwningNothingMayClose, ReadersMayClose, SendingKeepsOwners, UnsentMayClose, WritingKeepsOwners};
 
 /// Where nothing is under way nobody owns anything.
 pub fn found_is_owned()
@@ -65,4 +65,20 @@ pub fn readers_may_close()
 /// And of one that asked and sent nothing.
 pub fn unsent_may_close()
     ensures { UnsentMayClose }
+{}
+
+/// Of one that owns no write request under way and has no Write on the wire, whatever work of
+/// others stands on its name.
+pub fn owning_nothing_may_close()
+    ensures { OwningNothingMayClose }
+{}
+
+/// So of one that was turned away by another call's write request.
+pub fn blocked_may_close()
+    ensures { BlockedMayClose }
+{}
+
+/// And of one that drove another call's write request until it landed.
+pub fn adopters_may_close()
+    ensures { AdoptersMayClose }
 {}

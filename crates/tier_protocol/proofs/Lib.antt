@@ -15,3 +15,5 @@ pub mod Fits
 pub mod ActLists
 pub mod Owners
 pub mod MemoryMoves
+pub mod Climbs
+pub mod Numbers

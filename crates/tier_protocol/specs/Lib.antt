@@ -8,3 +8,4 @@ pub mod Doubts
 pub mod Fitting
 pub mod Owners
 pub mod MemoryLaws
+pub mod Rising

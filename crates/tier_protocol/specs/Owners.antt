@@ -1,6 +1,6 @@
 -- Whose act it is. A Write may act when its call has ended long ago and no work stands, so the call
 -- and its line are kept beside the message.
-use Rattle.std.specs.Prelude.{◌≡◌, ◌≢◌, ◌≤◌, ◌⊎◌, ℕ, suc, Bool, false, List, [], ◌∷◌, ◌++◌, map, Option, Some, None, if◌then◌else◌, ◌==◌}
+use Rattle.std.specs.Prelude.{◌≡◌, ◌≢◌, ◌≤◌, ◌⊎◌, ℕ, suc, ◌+◌, Bool, false, List, [], ◌∷◌, ◌++◌, map, length, Option, Some, None, if◌then◌else◌, ◌==◌}
 use Rattle.std.specs.Option.{option_map}
 use Rattle.obj_model.specs.declared.reply.Reply.{Reply}
 use Rattle.obj_model.specs.declared.req.Req.{Req}
@@ -56,6 +56,28 @@ AreOnce (a ∷ acts) = HasNoAct a.call acts × AreOnce acts
 abbrev pub number_of : ℕ → List CallAct → Option ℕ
 number_of call [] = None
 number_of call (a ∷ acts) = if a.call == call then Some 1 else option_map suc (number_of call acts)
+
+-- the act stands at this place of the history, counted from 1
+pub record IsAtPlace (k : ℕ) (a : CallAct) (acts : List CallAct) : Type 0 where
+  pub before : List CallAct
+  pub behind : List CallAct
+  pub whole : acts ≡ before ++ a ∷ behind
+  pub place : k ≡ length before + 1
+
+-- What the numbers of a history's calls are: places, of one act each.
+pub record AreNumbered (acts : List CallAct) : Type 0 where
+  -- at the number of a call an act of this call stands
+  pub own : (call k : ℕ) → number_of call acts ≡ Some k
+      → (a : CallAct) × (a.call ≡ call) × IsAtPlace k a acts
+  -- each act stands at a place, and this is its call's number
+  pub each : (a : CallAct) → IsIn a acts
+      → (k : ℕ) × IsAtPlace k a acts × (number_of a.call acts ≡ Some k)
+  pub placed : (k : ℕ) (a : CallAct) → IsAtPlace k a acts → number_of a.call acts ≡ Some k
+  -- no two calls have one number
+  pub apart : (call other k : ℕ) → number_of call acts ≡ Some k → number_of other acts ≡ Some k
+      → call ≡ other
+  -- a call without an act has none
+  pub none : (call : ℕ) → HasNoAct call acts → number_of call acts ≡ None
 
 -- the call has no act yet, and was not answered for good
 abbrev pub IsOpen : Ledger → ℕ → Type 0
@@ -127,6 +149,18 @@ LandingFits =
     → ((a : CallAct) → IsIn a l.acts → a.call ≡ owner → (a.req ≡ r) × (lasting b ≡ Again a.reply))
     × ((answer : Reply) → b ≡ BaseActed.Fresh answer → (a : CallAct) × IsIn a l.acts
     × (a.call ≡ owner))
+
+-- the number of a call's act is its place, and is told as soon as it acts
+abbrev pub NumbersArePlaces : Type 0
+NumbersArePlaces =
+    (acts : List CallAct) → AreOnce acts
+    → AreNumbered acts
+    × ((a : CallAct) → HasNoAct a.call acts
+    → number_of a.call (acts ++ a ∷ []) ≡ Some (length acts + 1))
+
+-- so it is in every moment
+abbrev pub HistoriesAreNumbered : Type 0
+HistoriesAreNumbered = (t : Tier) (l : Ledger) → SoundOwners t l → AreNumbered l.acts
 
 -- the number of a call's act stays, however many acts come behind it
 abbrev pub NumbersStay : Type 0

@@ -16,6 +16,7 @@ mod fitting;
 mod memory_laws;
 mod moves;
 mod owning;
+mod rising;
 
 pub use answers::{
     acted_is_spent, acts_are_fresh, base_never_falls, chunks_are_present, evicted_stays,
@@ -35,4 +36,8 @@ pub use moves::{
     going_up_keeps, history_is_legal, landing_keeps, leaving_keeps, losing_keeps, promoting_keeps,
     raising_keeps, sending_keeps, sound_stands, stopping_keeps,
 };
-pub use owning::{acts_are_owned, landing_fits, losses_are_quiet, numbers_stay, quiet_keeps};
+pub use owning::{
+    acts_are_owned, histories_are_numbered, landing_fits, losses_are_quiet, numbers_are_places,
+    numbers_stay, quiet_keeps,
+};
+pub use rising::{epochs_only_rise, rises_join};
