@@ -15,7 +15,7 @@ use Rattle.pool_keys.specs.Left.{IsLeft}
 use Rattle.store_face.specs.Calls.{Committed, Made, MayBeMade, Stays as StoreStays}
 use Rattle.store_face.specs.Views.{StoreView}
 use Rattle.store_face.specs.declared.fault.StoreFault.TheVariants.{Disk, BadImage, NoSpace, Worn, NoMemory}
-use Rattle.tier_chron.specs.Laws.{IsNamedFor}
+use Rattle.tier_chron.specs.Laws.{IsNamedFor, IsOpeningFor}
 use Rattle.tier_chron.specs.Logs.{opened}
 use Rattle.tier_chron.specs.Places.{behind}
 use Rattle.tier_chron.specs.Shapes.{IsShaped}
@@ -140,7 +140,7 @@ module _ (v : GroupView) (m : Sent) (o : Owner) (op : ℕ) (r : Req) (b t : Name
   }
 
   named : IsNamedFor v.log.opening A first
-  named = deliver.named_of v.log.opening A b first acts.opening
+  named = deliver.named_there v A first acts.opening
 
   more : (xs : List First) × (opened first v.log.opening ≡ v.log.opening ++ xs)
   more = deliver.opened_more v.log.opening A first named
@@ -158,6 +158,10 @@ module _ (v : GroupView) (m : Sent) (o : Owner) (op : ℕ) (r : Req) (b t : Name
 
     fresh : act (state_of (behind start v.log.acts) r.name) r ≡ Fresh t answer
     fresh = ap (λ x. act x r) plain ∙ acts.acts
+
+    opens : IsOpeningFor (behind start v.log.acts) v.log.opening A first
+    opens = deliver.opening_for (behind start v.log.acts) v.log.opening A b first plain
+        (deliver.first_here v m o op r b t answer first acts start some.0 some.1 (old_world some.0 some.1))
 
   -- ---- it was made
   made_keeps : (done : Unit {0}) → CommitsThere v r t bytes s (Ok done) → Keeps (with_req r) None v (acted_there m.number op first A t.seq s (Ok done) v)
@@ -195,7 +199,7 @@ module _ (v : GroupView) (m : Sent) (o : Owner) (op : ℕ) (r : Req) (b t : Name
             fit start z (subst (IsOwned start (after (with_served M Out) Mem) (with_call_act (act_in A) (ledger_in v))) (sym from.2)
             (deliver.made_owned v m o op r b t answer first acts bytes s (Ok done) commits start from.0 from.1 (old_world start told g from.0 from.1)));
         history = deliver.history_acts start (calls_in v.calls.entries) v.log A first g.history acts.may (t, fresh start told g)
-            (deliver.opening_for (behind start v.log.acts) v.log.opening A b first (plain start told g) acts.opening) named;
+            (opens start told g) named;
         next = tt;
       }
 
@@ -227,7 +231,7 @@ module _ (v : GroupView) (m : Sent) (o : Owner) (op : ℕ) (r : Req) (b t : Name
           ))
         ];
         history = g.history;
-        next = ((t, fresh start told g, refl), deliver.opening_for (behind start v.log.acts) v.log.opening A b first (plain start told g) acts.opening);
+        next = ((t, fresh start told g, refl), opens start told g);
       }
 
   -- ---- no map changed

@@ -41,7 +41,7 @@ use Rattle.tier_protocol.proofs.Cells.{get_here}
 use Rattle.tier_protocol.proofs.Delivers.{delivering, flies, in_epoch_by}
 use Rattle.tier_protocol.proofs.Owners.{acts_for, losses_quiet, quiet_keeps}
 use Rattle.tier_types.specs.Serving.{Served, in_epoch, put_by, served, told_of}
-use Rattle.tier_view.specs.Delivers.{ActsThere, CommitsThere, IsFirstOf}
+use Rattle.tier_view.specs.Delivers.{ActsThere, CommitsThere, IsFirstOf, IsFirstThere}
 use Rattle.tier_view.specs.Traffic.{Owner, Sent, owned_by, owned_in, wire_of}
 use Rattle.tier_view.specs.Views.{GroupView, act_in, joined, ledger_in}
 use Rattle.tier_view.specs.Whole.{AreNumbered}
@@ -151,6 +151,14 @@ module _ (v : GroupView) (m : Sent) (o : Owner) (op : ℕ) (r : Req) (b t : Name
         let cells = flies T E op r t answer k.spells.sound on refl fresh_here in
         sym ((k.spells.sound.names r.name).clean (ap is_dirty cells.0)) ∙ here
 
+    -- the opening has the state on which the request acts
+    pub first_here : IsFirstOf v.log.opening r.name b first
+    first_here = by first acts.opening
+      where
+        by : (f : Option First) → IsFirstThere v r.name f → IsFirstOf v.log.opening r.name b f
+        by None h = h
+        by (Some f) h = (h.0, h.1, sym (state_is start (joined v) z r.name f.state h.2 i k.spells) ∙ here)
+
   module _ (bytes : List ℕ) (s : StoreView) (result : Outcome) (commits : CommitsThere v r t bytes s result) where
     abbrev Cs : List Change
     Cs = sets (state_key r.name) (Some bytes)
@@ -198,6 +206,10 @@ module _ (v : GroupView) (m : Sent) (o : Owner) (op : ℕ) (r : Req) (b t : Name
 pub named_of : (opening : List First) (a : Act) (s : NameState) (f : Option First) → IsFirstOf opening a.req.name s f → IsNamedFor opening a f
 named_of opening a s None h = h
 named_of opening a s (Some f) h = (h.0, h.1)
+
+pub named_there : (v : GroupView) (a : Act) (f : Option First) → IsFirstThere v a.req.name f → IsNamedFor v.log.opening a f
+named_there v a None h = h
+named_there v a (Some f) h = (h.0, h.1)
 
 pub opening_for : (now : Store) (opening : List First) (a : Act) (s : NameState) (f : Option First) → state_of now a.req.name ≡ s → IsFirstOf opening a.req.name s f → IsOpeningFor now opening a f
 opening_for now opening a s None same h = h

@@ -59,8 +59,14 @@ IsFirstOf opening name s None = is_opened opening name ≡ true
 IsFirstOf opening name s (Some f) =
     (is_opened opening name ≡ false) × (f.name ≡ name) × (f.state ≡ s)
 
+-- the same of a name in the base, with a state that was read there
+abbrev pub IsFirstThere : GroupView → List ℕ → Option First → Type 0
+IsFirstThere v name None = is_opened v.log.opening name ≡ true
+IsFirstThere v name (Some f) =
+    (is_opened v.log.opening name ≡ false) × (f.name ≡ name) × HasState (joined v) name f.state
+
 -- A Write of the base's epoch, which acts on the state that was read; its act is its owner's, who
--- may act.
+-- may act. Where the store tells nothing, the opening may have been read as another state.
 pub record ActsThere (v : GroupView) (m : Sent) (o : Owner) (op : ℕ) (r : Req) (s t : NameState)
     (answer : Reply) (first : Option First) : Type 0 where
   pub on : IsIn m v.traffic.messages
@@ -70,7 +76,7 @@ pub record ActsThere (v : GroupView) (m : Sent) (o : Owner) (op : ℕ) (r : Req)
   pub acts : act s r ≡ Fresh t answer
   pub may : MayAct (calls_in v.calls.entries) v.log
       (record { call = o.call; line = o.line; req = r; reply = answer })
-  pub opening : IsFirstOf v.log.opening r.name s first
+  pub opening : IsFirstThere v r.name first
   pub named : name_fault r.name ≡ None
 
 -- the commit of that state

@@ -16,4 +16,6 @@ pub mod Settles
 pub mod Laws
 pub mod Stops
 pub mod Changes
+pub mod Serves
+pub mod Locals
 pub mod Lies

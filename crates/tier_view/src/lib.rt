@@ -11,7 +11,9 @@
 
 mod general;
 mod lies;
+mod locals;
 mod parts;
+mod serves;
 mod slice;
 mod stops;
 
@@ -20,8 +22,17 @@ pub use lies::{
     blocked_is_by_work, entries_ask_what_is_wanted, flushes_are_told_no_values,
     made_up_work_is_refused, second_commits_are_refused, strangers_do_not_act,
 };
+pub use locals::{
+    acting_here_keeps, cleaning_here_keeps, evicting_here_keeps, last_act_is_placed,
+    promoting_here_keeps, records_answer_plainly, sound_is_few, sums_follow,
+};
 pub use parts::{
     Awaited, Begun, Entry, FirstBusy, Flown, KeptFence, Noted, Owner, Pending, Replied, Sent,
+};
+pub use serves::{
+    actless_keeps, answering_there_keeps, delivering_keeps, failing_there_keeps,
+    lacking_there_keeps, leaving_base_keeps, owners_may_act, straying_there_keeps,
+    taking_there_keeps,
 };
 pub use slice::{
     beginning_writes_keeps, delivering_acts_keeps, opening_calls_keeps, sending_writes_keeps,
