@@ -90,6 +90,11 @@ own_failed msg have o a b name (BadRecord other) taken named h = record {
 pub kept_on : (name : List ℕ) (a b : StoreView) (k : Kept) → Recalls name a b (Ok k) → IsKept b (Some k)
 kept_on name a b k h = (h.1, holds_on a b (Has k.name k.state) h.3 (subst (λ n. Holds a (Has n k.state)) (sym h.0) h.2))
 
+-- and so is one that gave a chunk
+pub kept_given : (name : List ℕ) (a b : StoreView) (k : Kept) (s : NameState) → Recalls name a b (Ok k) → s ≡ k.state
+    → IsKept b (Some (record { name = k.name; state = s }))
+kept_given name a b k s h e = subst (λ (t : NameState). IsKept b (Some (record { name = k.name; state = t }))) (sym e) (kept_on name a b k h)
+
 -- want of memory changes nothing
 pub no_memory_then : (msg : BaseMsg) (have : ℕ) (o : Bool) (a b : StoreView) (name : List ℕ) (k : Kept) → is_taken have msg ≡ true → Recalls name a b (Ok k)
     → Serves msg (base_of a have o) (base_of b have o) (Err (Store store.NoMemory))
@@ -123,7 +128,7 @@ pub look_failed : (have op : ℕ) (name : List ℕ) (v : List SubOp) (o : Bool) 
 look_failed have op name v o a b fault h = own_failed (BaseMsg.Look have op name v) have o a b name fault (own_taken have) refl h
 
 -- what the answer to a chunk rests on
-pub ruleset chunk_rules = (chunk_given, chunk_failed, no_memory_then, kept_on)
+pub ruleset chunk_rules = (chunk_given, chunk_failed, no_memory_then, kept_on, kept_given)
 
 -- what the answer to a reading rests on
 pub ruleset look_rules = (look_given, look_failed, no_memory_then, kept_on)

@@ -91,7 +91,7 @@ impl<P: Store> Base<P> {
         match recall(alloc, store, kept.take(), name) {
             Err(fault) => Err(fault),
             Ok(held) => {
-                let copy = held.state.copy();
+                let copy = held.state.state().copy();
                 *kept = Some(held);
                 Ok(copy?)
             }
@@ -102,12 +102,10 @@ impl<P: Store> Base<P> {
     ///
     /// A message of an older epoch is refused as OldEpoch, one of an epoch that the base was not
     /// told of as NotFenced, and both leave everything as it is. A Fence, a request that acts and
-    /// an
-    /// Install of a greater `seq` are in the store before they are answered, or are answered with
-    /// want of room. BadRecord comes only where the value that was read for this message spells no
-    /// state, Worn where the store is worn out or a Fence is above 2^62, Disk where the disk
-    /// failed,
-    /// when the message was served or not.
+    /// an Install of a greater `seq` are in the store before they are answered, or are answered
+    /// with want of room. BadRecord comes only where the value that was read for this message
+    /// spells no state, Worn where the store is worn out or a Fence is above 2^62, Disk where the
+    /// disk failed, when the message was served or not.
     pub fn serve(&mut self, alloc: Global, message: &BaseMsg) -> Result<BaseReply, BaseFault>
         requires live { IsLive self.old }
         requires lawful { IsMsg message.now }
@@ -124,8 +122,7 @@ impl<P: Store> Base<P> {
     }
 
     /// Opens the base anew, as after a crash: its store, and then its epoch. Until it answers Ok
-    /// the
-    /// base is not live.
+    /// the base is not live.
     pub fn reopen(&mut self, alloc: Global) -> Result<(), BaseFault>
         ensures reopened { ReopensBase self.old self.new result }
         ensures sound { SoundBase self.new }

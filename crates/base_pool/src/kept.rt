@@ -1,22 +1,23 @@
 //! The state of a name: read from the store, or still in memory from the last reading, so that an
-//! object that is asked for chunk by chunk is read and decoded once.
+//! object that is asked for chunk by chunk is read and decoded once, and gone through once.
 ghost use Rattle.std.specs.Prelude.{◌≡◌, true, Ok, Some, IfOk};
 ghost use Rattle.rec_codec.specs.Spelling.{SpellsState};
 ghost use Rattle.store_face.specs.Views.{Sound};
 ghost use Rattle.base_pool.specs.Steps.{Decodes, Finds, IsKept, Recalls};
 
 use crate::BaseFault;
+use copy_chunk::Cutter;
 use obj_model::{Name, NameState};
 use pool_keys::state_key;
 use rec_codec::read_state;
 use std::alloc::Global;
 use store_face::{Store, StoreFault};
 
-/// The state of the name that was read last.
+/// The state of the name that was read last, which gives its chunks.
 #[derive(Debug, Drop)]
 pub(crate) struct Kept {
     pub(crate) name: Name,
-    pub(crate) state: NameState,
+    pub(crate) state: Cutter,
 }
 
 // The state that a value spells.
@@ -59,7 +60,10 @@ fn read_anew<P: Store>(alloc: Global, store: &mut P, name: &Name) -> Result<Kept
     let copy = name.copy()?;
     match find_state(alloc, store, name) {
         Err(fault) => Err(fault),
-        Ok(state) => Ok(Kept { name: copy, state }),
+        Ok(state) => Ok(Kept {
+            name: copy,
+            state: Cutter::new(state),
+        }),
     }
 }
 

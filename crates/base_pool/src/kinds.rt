@@ -20,7 +20,7 @@ use crate::BaseFault;
 use crate::kept::{Kept, recall};
 use crate::putting::{put_epoch, put_state, refused};
 use crate::refusing::refusal;
-use copy_chunk::{Cursor, chunk_of};
+use copy_chunk::Cursor;
 use obj_model::{NUMBER_LIMIT, Name, NameState, Reply, Req, Vector};
 use obj_ops::{Acted, act, look};
 use std::alloc::Global;
@@ -81,7 +81,7 @@ fn get_chunk<P: Store>(
 {
     match recall(alloc, store, kept.take(), name) {
         Err(fault) => Err(fault),
-        Ok(held) => match chunk_of(alloc, &held.state, at) {
+        Ok(mut held) => match held.state.chunk(alloc, at) {
             Err(_) => Err(BaseFault::Store(StoreFault::NoMemory)),
             Ok(chunk) => {
                 *kept = Some(held);
@@ -118,7 +118,7 @@ fn look_up<P: Store>(
 {
     match recall(alloc, store, kept.take(), name) {
         Err(fault) => Err(fault),
-        Ok(held) => match look(alloc, &held.state, vector) {
+        Ok(held) => match look(alloc, held.state.state(), vector) {
             Err(_) => Err(BaseFault::Store(StoreFault::NoMemory)),
             Ok(looked) => {
                 *kept = Some(held);
@@ -186,7 +186,7 @@ fn write<P: Store>(
 {
     match recall(alloc, store, kept.take(), &req.name) {
         Err(fault) => Err(fault),
-        Ok(held) => match act(alloc, &held.state, req) {
+        Ok(held) => match act(alloc, held.state.state(), req) {
             Err(_) => Err(BaseFault::Store(StoreFault::NoMemory)),
             Ok(Acted::Fresh { state, reply }) => {
                 put_fresh(alloc, store, have, opid, req, &state, reply)
@@ -274,7 +274,7 @@ fn install<P: Store>(
     match recall(alloc, store, kept.take(), name) {
         Err(fault) => Err(fault),
         Ok(held) => {
-            if held.state.seq < state.seq {
+            if held.state.state().seq < state.seq {
                 put_installed(alloc, store, have, opid, name, state)
             } else {
                 *kept = Some(held);

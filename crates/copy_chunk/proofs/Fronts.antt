@@ -103,7 +103,7 @@ key_itself : (k : Option (List ℕ)) → is_key k k ≡ true
 key_itself None = refl
 key_itself (Some k) = nat_list_eq_equiv.refl k
 
-place_itself : (at : Cursor) → is_place at at ≡ true
+pub place_itself : (at : Cursor) → is_place at at ≡ true
 place_itself Head = refl
 place_itself (Body off) = grind arith
 place_itself (Attrs k) = key_itself k

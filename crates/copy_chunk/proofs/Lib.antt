@@ -11,3 +11,4 @@ pub mod Cutting
 pub mod TableCuts
 pub mod Pieces
 pub mod Fits
+pub mod Known

@@ -1,7 +1,7 @@
 -- The chunk at a place, kind by kind: what private steps of the cutting give.
-use Rattle.std.specs.Prelude.{ℕ, ◌+◌, ◌-◌, ◌%◌, Bool, false, not, ◌||◌, ◌==◌, nat_le, nat_lt}
-use Rattle.std.specs.Prelude.{bytes_eq, is_some, List, [], ◌∷◌, map, length, take, drop, Option}
-use Rattle.std.specs.Prelude.{Some, None, if◌then◌else◌}
+use Rattle.std.specs.Prelude.{◌≡◌, ℕ, ◌+◌, ◌-◌, ◌%◌, Bool, true, false, not, ◌||◌, ◌==◌, nat_le}
+use Rattle.std.specs.Prelude.{nat_lt, bytes_eq, is_some, List, [], ◌∷◌, map, length, take, drop}
+use Rattle.std.specs.Prelude.{Option, Some, None, if◌then◌else◌}
 use Rattle.std.specs.FinMap as fin
 use Rattle.obj_model.specs.Tables.{Table, entries_above}
 use Rattle.obj_model.specs.declared.state.Obj.{Obj}
@@ -12,6 +12,7 @@ use Rattle.copy_chunk.specs.declared.chunk.Cursor.TheVariants.{Head, Body, Attrs
 use Rattle.copy_chunk.specs.declared.chunk.Part.TheVariants as part
 use Rattle.copy_chunk.specs.declared.groups.Group.{Group}
 use Rattle.copy_chunk.specs.Chunks.{Entry, pair_of, weight, before_first, groups, last_key}
+use Rattle.copy_chunk.specs.Chunks.{chunks_of, chunk_at}
 
 -- ---- the pairs of one chunk
 
@@ -46,12 +47,15 @@ abbrev pub begins_behind : Option ℕ → List Entry → Bool
 begins_behind None es = false
 begins_behind (Some room) es = begins room es
 
+-- whether a group begins at a place of a table
+abbrev pub is_begin : Table → Option (List ℕ) → Bool
+is_begin t None = true
+is_begin t (Some key) =
+    begins_behind (room_behind 65536 (fin.entries t) key) (entries_above (Some key) t)
+
 -- the group at a place of a table
 abbrev pub group_at : Table → Option (List ℕ) → Option Group
-group_at t None = first_group (entries_above None t)
-group_at t (Some key) =
-    if begins_behind (room_behind 65536 (fin.entries t) key) (entries_above (Some key) t)
-    then first_group (entries_above (Some key) t) else None
+group_at t key = if is_begin t key then first_group (entries_above key t) else None
 
 -- a group as a chunk: the place of the next group, or of what stands behind the table
 abbrev pub table_chunk : (Option (List ℕ) → Cursor) → Cursor → Option (List ℕ) → Option Group
@@ -113,3 +117,15 @@ cut s (Attrs key) =
 cut s (Omap key) =
     elim s.obj [ None ↦ None | Some o ↦ table_chunk Omap Seen key (group_at o.omap key) ]
 cut s Seen = Some (record { at = Seen; part = part.Seen s.seen; next = None })
+
+-- ---- places that are known
+
+-- a place, where there is one, is a place of the state
+abbrev pub AreThere : NameState → Option Cursor → Type 0
+AreThere s None = Unit {0}
+AreThere s (Some at) = is_some (chunk_at (chunks_of s) at) ≡ true
+
+-- the place that a chunk names, where there are a chunk and a place
+abbrev pub next_of : Option Chunk → Option Cursor
+next_of None = None
+next_of (Some c) = c.next

@@ -1,6 +1,7 @@
 //! The chunk at a place of a state. Only its piece is copied: of the pairs before it lengths alone
 //! are added up.
-ghost use Rattle.std.specs.Prelude.{◌≡◌, ◌+◌, ◌<◌, ◌^◌, IfOk, take, nat_lt, if◌then◌else◌};
+ghost use Rattle.std.specs.Prelude.{◌≡◌, ◌+◌, ◌<◌, ◌^◌, IfOk, take, nat_lt, is_some, true};
+ghost use Rattle.std.specs.Prelude.{if◌then◌else◌};
 ghost use Rattle.copy_chunk.specs.declared.chunk.Cursor.TheVariants as place;
 ghost use Rattle.copy_chunk.specs.Chunks.{chunks_of, chunk_at};
 ghost use Rattle.copy_chunk.specs.Cuts.{behind_attrs, behind_body, head_chunk, body_chunk};
@@ -15,11 +16,19 @@ use std::alloc::Global;
 pub fn chunk_of(alloc: Global, state: &NameState, at: &Cursor) -> Result<Option<Chunk>, NoMemory>
     ensures { IfOk result (λ chunk. chunk ≡ chunk_at (chunks_of state.now) at.now) }
 {
-    cut(alloc, state, at)
+    cut(alloc, state, at, false)
 }
 
-// The chunk at a place, kind by kind.
-fn cut(alloc: Global, state: &NameState, at: &Cursor) -> Result<Option<Chunk>, NoMemory>
+/// The chunk at a place, kind by kind. Where it is known that it is a place of the state, what
+/// stands before it is left alone.
+#[tactic(auto, using(crate::proofs::Known::known_attrs, crate::proofs::Known::known_omap))]
+pub(crate) fn cut(
+    alloc: Global,
+    state: &NameState,
+    at: &Cursor,
+    known: bool,
+) -> Result<Option<Chunk>, NoMemory>
+    requires { known ≡ true → is_some (cut state.now at.now) ≡ true }
     ensures { IfOk result (λ chunk. chunk ≡ cut state.now at.now) }
 {
     match at {
@@ -30,11 +39,11 @@ fn cut(alloc: Global, state: &NameState, at: &Cursor) -> Result<Option<Chunk>, N
         },
         Cursor::Attrs(key) => match &state.obj {
             None => Ok(None),
-            Some(obj) => attrs_chunk(alloc, obj, key),
+            Some(obj) => attrs_chunk(alloc, obj, key, known),
         },
         Cursor::Omap(key) => match &state.obj {
             None => Ok(None),
-            Some(obj) => omap_chunk(alloc, obj, key),
+            Some(obj) => omap_chunk(alloc, obj, key, known),
         },
         Cursor::Seen => Ok(Some(Chunk {
             at: Cursor::Seen,
@@ -134,11 +143,17 @@ fn body_chunk(alloc: Global, obj: &Obj, off: u64) -> Result<Option<Chunk>, NoMem
 }
 
 // The attributes behind a key.
-fn attrs_chunk(alloc: Global, obj: &Obj, key: &Option<Name>) -> Result<Option<Chunk>, NoMemory>
+fn attrs_chunk(
+    alloc: Global,
+    obj: &Obj,
+    key: &Option<Name>,
+    known: bool,
+) -> Result<Option<Chunk>, NoMemory>
+    requires { known ≡ true → is_some (group_at obj.now.attrs key.now) ≡ true }
     ensures { IfOk result (λ chunk. chunk
         ≡ table_chunk place.Attrs (behind_attrs obj.now) key.now (group_at obj.now.attrs key.now)) }
 {
-    let Some(Group { pairs, last }) = group_at(alloc, &obj.attrs, key.as_ref())? else {
+    let Some(Group { pairs, last }) = group_at(alloc, &obj.attrs, key.as_ref(), known)? else {
         return Ok(None);
     };
     let next = match last {
@@ -153,11 +168,17 @@ fn attrs_chunk(alloc: Global, obj: &Obj, key: &Option<Name>) -> Result<Option<Ch
 }
 
 // The entries of the omap behind a key.
-fn omap_chunk(alloc: Global, obj: &Obj, key: &Option<Name>) -> Result<Option<Chunk>, NoMemory>
+fn omap_chunk(
+    alloc: Global,
+    obj: &Obj,
+    key: &Option<Name>,
+    known: bool,
+) -> Result<Option<Chunk>, NoMemory>
+    requires { known ≡ true → is_some (group_at obj.now.omap key.now) ≡ true }
     ensures { IfOk result (λ chunk. chunk
         ≡ table_chunk place.Omap place.Seen key.now (group_at obj.now.omap key.now)) }
 {
-    let Some(Group { pairs, last }) = group_at(alloc, &obj.omap, key.as_ref())? else {
+    let Some(Group { pairs, last }) = group_at(alloc, &obj.omap, key.as_ref(), known)? else {
         return Ok(None);
     };
     let next = match last {

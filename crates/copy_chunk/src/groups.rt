@@ -1,11 +1,11 @@
 //! The pairs of one chunk of a table. Of the pairs before them the lengths alone are added up.
 ghost use Rattle.std.specs.Prelude.{◌≡◌, ◌+◌, ◌-◌, ◌++◌, ◌∷◌, [], IfOk, OnOk, Some, None, length};
-ghost use Rattle.std.specs.Prelude.{nat_le, if◌then◌else◌};
+ghost use Rattle.std.specs.Prelude.{nat_le, is_some, true, if◌then◌else◌};
 ghost use Rattle.std.specs.Option.{option_copied};
 ghost use Rattle.std.specs.FinMap as fin;
 ghost use Rattle.obj_model.specs.Tables.{entries_above};
 ghost use Rattle.copy_chunk.specs.Chunks.{pair_of};
-ghost use Rattle.copy_chunk.specs.Cuts.{room_behind, first_group, begins, group_at};
+ghost use Rattle.copy_chunk.specs.Cuts.{room_behind, first_group, begins, is_begin, group_at};
 
 use obj_model::{Bytes, Items, Name, NoMemory, Pair, PairList, PairMap};
 use std::alloc::Global;
@@ -108,23 +108,34 @@ fn begins(table: &PairMap, key: &Name, room: usize) -> bool
     }
 }
 
-/// The group at a place of a table; none where no group begins there.
+// Whether a group begins at a place of a table. It goes through the table up to there.
+fn is_begin(table: &PairMap, after: Option<&Name>) -> bool
+    ensures { result ≡ is_begin table.now (option_copied after.entry) }
+{
+    let Some(key) = after else {
+        return true;
+    };
+    match room_behind(table, key) {
+        None => false,
+        Some(room) => begins(table, key, room),
+    }
+}
+
+/// The group at a place of a table; none where no group begins there. Where it is known that one
+/// does, the table before it is left alone.
+#[tactic(auto, using(crate::proofs::Known::known_group))]
 pub(crate) fn group_at(
     alloc: Global,
     table: &PairMap,
     after: Option<&Name>,
+    known: bool,
 ) -> Result<Option<Group>, NoMemory>
+    requires { known ≡ true → is_some (group_at table.now (option_copied after)) ≡ true }
     ensures { IfOk result (λ group. group ≡ group_at table.now (option_copied after.entry)) }
 {
-    if let Some(key) = after {
-        match room_behind(table, key) {
-            None => return Ok(None),
-            Some(room) => {
-                if !begins(table, key, room) {
-                    return Ok(None);
-                }
-            }
-        }
+    if known || is_begin(table, after) {
+        first_group(alloc, table, after)
+    } else {
+        Ok(None)
     }
-    first_group(alloc, table, after)
 }

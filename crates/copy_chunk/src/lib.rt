@@ -8,6 +8,7 @@
 
 mod chunk;
 mod cut;
+mod cutter;
 mod draft;
 mod gather;
 mod groups;
@@ -15,5 +16,6 @@ mod laws;
 
 pub use chunk::{Chunk, Cursor, Part};
 pub use cut::chunk_of;
+pub use cutter::Cutter;
 pub use gather::{Added, Gather};
 pub use laws::{chains_are_fronts, chunks_join, fronts_go_on, fronts_join, own_chunks_fit};
