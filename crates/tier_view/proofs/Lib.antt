@@ -22,7 +22,9 @@ pub mod LocalSums
 pub mod LocalFew
 pub mod LocalMaps
 pub mod LocalSteps
+pub mod LocalActSteps
 pub mod LocalActs
 pub mod LocalWork
 pub mod LocalPuts
+pub mod LocalPromotes
 pub mod LocalFacts

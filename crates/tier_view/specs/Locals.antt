@@ -86,17 +86,22 @@ pub record PutsRec (v : GroupView) (k : Name) (old new : Option TierRec) (o : Op
 
 -- ---- a request acts on a record
 
--- The request of a call in flight, which has no act, acts on the record that was read, while no
--- work keeps writers out.
+-- The request of a call in flight, which has no act, acts on this state; with the opening of its
+-- name.
+pub record ActsOn (v : GroupView) (call line : ℕ) (q : Req) (b t : NameState) (answer : Reply)
+    (first : Option First) : Type 0 where
+  pub acts : act b q ≡ Fresh t answer
+  pub asked : HasAsked v call line q
+  pub going : IsInFlight v.calls.entries call
+  pub actless : HasNoAct call v.log.acts
+  pub opening : IsFirstOf v.log.opening q.name b first
+
+-- it acts on the record that was read, while no work keeps writers out
 pub record ActsHere (v : GroupView) (call line : ℕ) (q : Req) (r : TierRec) (t : NameState)
     (answer : Reply) (first : Option First) : Type 0 where
   pub up : v.standing.phase ≡ Phase.Up
   pub lets : lets_write (fin.get v.traffic.flights q.name) ≡ true
-  pub acts : act r.state q ≡ Fresh t answer
-  pub asked : HasAsked v call line q
-  pub going : IsInFlight v.calls.entries call
-  pub actless : HasNoAct call v.log.acts
-  pub opening : IsFirstOf v.log.opening q.name r.state first
+  pub on : ActsOn v call line q r.state t answer first
 
 -- Made: the record is dirty, of this moment, and the act enters the history. In doubt: the act is
 -- kept with it. Else nothing.
@@ -192,6 +197,32 @@ PromotingHereKeeps =
     → Keeps as_it_is None v
     (put_locally k (Some op) None (Some (record { state = b; dirty = false; mtime = moment })) s
     result v)
+
+-- it ends with the act of its request, in one commit
+abbrev pub acted_promoting : (op : ℕ) → Option First → Act → NameState → (moment : ℕ) → StoreView
+    → Outcome → GroupView → GroupView
+acted_promoting op first a t moment s (Ok made) v =
+    record (freed a.req.name (Some op) (with_cache s None v)) {
+      log = acted_log first a v.log;
+      agent = resummed None (Some (acted_record t moment)) v.agent;
+    }
+acted_promoting op first a t moment s (Err Disk) v =
+    freed a.req.name (Some op) (with_cache s (Some (Pending.Act Cache first a t.seq)) v)
+acted_promoting op first a t moment s (Err (BadImage at)) v = with_cache s None v
+acted_promoting op first a t moment s (Err (NoSpace used need limit)) v = with_cache s None v
+acted_promoting op first a t moment s (Err (Worn limit)) v = with_cache s None v
+acted_promoting op first a t moment s (Err NoMemory) v = with_cache s None v
+
+abbrev pub PromotingActsHereKeeps : Type 0
+PromotingActsHereKeeps =
+    (v : GroupView) (call line : ℕ) (q : Req) (waiter op : ℕ) (gather : List Chunk) (ask : Ask)
+    (b t : NameState) (answer : Reply) (first : Option First) (moment : ℕ) (o : Option (List ℕ))
+    (s : StoreView) (result : Outcome) → IsWhole v → v.stores.pending ≡ None
+    → PromotesHere v q.name waiter op gather ask b → ActsOn v call line q b t answer first
+    → PutsRec v q.name None (Some (acted_record t moment)) o s result
+    → Keeps (with_req q) None v
+    (acted_promoting op first (record { call = call; line = line; req = q; reply = answer }) t moment
+    s result v)
 
 -- ---- what an answer behind them rests on
 

@@ -24,7 +24,8 @@ pub use lies::{
 };
 pub use locals::{
     acting_here_keeps, cleaning_here_keeps, evicting_here_keeps, last_act_is_placed,
-    promoting_here_keeps, records_answer_plainly, sound_is_few, sums_follow,
+    promoting_acts_here_keeps, promoting_here_keeps, records_answer_plainly, sound_is_few,
+    sums_follow,
 };
 pub use parts::{
     Awaited, Begun, Entry, FirstBusy, Flown, KeptFence, Noted, Owner, Pending, Replied, Sent,

@@ -1,5 +1,5 @@
 //! Commits of the cache.
-ghost use Rattle.tier_view.specs.Locals.{ActingHereKeeps, CleaningHereKeeps, EvictingHereKeeps, LastActIsPlaced, PromotingHereKeeps, RecordsAnswerPlainly, SoundIsFew, SumsFollow};
+ghost use Rattle.tier_view.specs.Locals.{ActingHereKeeps, CleaningHereKeeps, EvictingHereKeeps, LastActIsPlaced, PromotingActsHereKeeps, PromotingHereKeeps, RecordsAnswerPlainly, SoundIsFew, SumsFollow};
 
 /// Where one record gives place to another, the sums over all follow.
 pub fn sums_follow()
@@ -29,6 +29,11 @@ pub fn cleaning_here_keeps()
 /// A promotion ends with a clean record.
 pub fn promoting_here_keeps()
     ensures { PromotingHereKeeps }
+{}
+
+/// A promotion ends, and its request acts at once, in one commit.
+pub fn promoting_acts_here_keeps()
+    ensures { PromotingActsHereKeeps }
 {}
 
 /// The act that came last has the number of all acts.
