@@ -27,4 +27,5 @@ pub mod LocalActs
 pub mod LocalWork
 pub mod LocalPuts
 pub mod LocalPromotes
+pub mod LocalFrees
 pub mod LocalFacts
