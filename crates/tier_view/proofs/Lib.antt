@@ -22,7 +22,10 @@ pub mod LocalSums
 pub mod LocalFew
 pub mod LocalMaps
 pub mod LocalSteps
+pub mod LocalActSteps
 pub mod LocalActs
 pub mod LocalWork
 pub mod LocalPuts
+pub mod LocalPromotes
+pub mod LocalFrees
 pub mod LocalFacts

@@ -183,7 +183,7 @@ put_owned v k o new old s result puts flights start z w sound quiet = record {
 }
 
 -- the work goes, and the record stays
-freed_owned : (v : GroupView) (k : Name) → is_write (fin.get v.traffic.flights k) ≡ false → (start : Store) (z : TwoMaps) → IsOwned start (joined v).memory (ledger_in v) z
+pub freed_owned : (v : GroupView) (k : Name) → is_write (fin.get v.traffic.flights k) ≡ false → (start : Store) (z : TwoMaps) → IsOwned start (joined v).memory (ledger_in v) z
     → IsOwned start (record (joined v).memory { flights = set_at v.traffic.flights k None }) (ledger_in v) z
 freed_owned v k idle start z w =
     let t = tier_of start (joined v).memory w.spells.recs w.spells.base in
@@ -302,7 +302,7 @@ cleaning_here_keeps v k call op m blocking drain r o s result h none a =
 
 -- ---- a promotion ends
 
-one_promotion : (call op : ℕ) (gather : List Chunk) (ask : Ask) (kd : Kind) (p : ℕ) → IsOfKind (Some (Flight.Promote call op gather ask)) kd p → p ≡ op
+pub one_promotion : (call op : ℕ) (gather : List Chunk) (ask : Ask) (kd : Kind) (p : ℕ) → IsOfKind (Some (Flight.Promote call op gather ask)) kd p → p ≡ op
 one_promotion call op gather ask kind.Promote p h = sym h
 one_promotion call op gather ask kind.Write p h = absurd h
 one_promotion call op gather ask kind.Read p h = absurd h

@@ -1,5 +1,5 @@
 -- Commits of the cache: a request acts on a record; a record goes, is marked clean, or comes.
-use Rattle.std.specs.Prelude.{◌≡◌, ℕ, Bool, true, false, List, length, Option, Some, None, Ok, Err}
+use Rattle.std.specs.Prelude.{◌≡◌, ◌⊎◌, ℕ, Bool, true, false, List, length, Option, Some, None, Ok, Err}
 use Rattle.std.specs.FinMap as fin
 use Rattle.agent_state.specs.Modes.{AreTotals}
 use Rattle.copy_chunk.specs.Gathers.{joined as gathered}
@@ -17,13 +17,15 @@ use Rattle.pool_keys.specs.Keys.{record_key}
 use Rattle.pool_keys.specs.Left.{IsLeft}
 use Rattle.pool_keys.specs.Maps.{SpellsCache}
 use Rattle.pool_keys.specs.Values.{IsRecOf}
-use Rattle.store_face.specs.Calls.{Committed}
+use Rattle.store_face.specs.Calls.{Committed, Fails, Stays}
 use Rattle.store_face.specs.Tables.{Table}
 use Rattle.store_face.specs.Views.{Sound, StoreView}
 use Rattle.store_face.specs.declared.fault.StoreFault.TheVariants.{Disk, BadImage, NoSpace, Worn, NoMemory}
 use Rattle.tier_chron.specs.Logs.{acted_log}
 use Rattle.tier_chron.specs.Places.{act_at, state_at}
 use Rattle.tier_chron.specs.Shapes.{HasNoAct}
+use Rattle.tier_flight.specs.Busy.{busy_at}
+use Rattle.tier_flight.specs.declared.busy.Want.TheVariants as want
 use Rattle.tier_chron.specs.declared.entries.Act.{Act}
 use Rattle.tier_chron.specs.declared.entries.First.{First}
 use Rattle.tier_join.specs.Group.{BothTell}
@@ -32,7 +34,7 @@ use Rattle.tier_join.specs.Steps.{HasRec, Outcome, sets}
 use Rattle.tier_protocol.specs.Moves.{set_at}
 use Rattle.tier_protocol.specs.Tiers.{Ask, BaseReply, Flight, IsIn, Name, Phase, Recs, TierRec}
 use Rattle.tier_rec.specs.Records.{acted_record, clean_record, totals_after, totals_over}
-use Rattle.tier_types.specs.Flights.{lets_write}
+use Rattle.tier_types.specs.Flights.{is_bare, lets_write}
 use Rattle.tier_view.specs.Agents.{Agents}
 use Rattle.tier_view.specs.Calls.{Calls, IsInFlight}
 use Rattle.tier_view.specs.Changes.{gone_in}
@@ -84,19 +86,34 @@ pub record PutsRec (v : GroupView) (k : Name) (old new : Option TierRec) (o : Op
   pub committed : Committed (sets (record_key k) o) v.stores.cache s result
   pub few : s.live ≡ true → AreFew s
 
+-- no map changes and no doubt comes: the cache was only read; its disk may have failed in that
+pub record LeavesCache (v : GroupView) (s : StoreView) : Type 0 where
+  pub moments : s.moments ≡ v.stores.cache.moments
+  pub later : Stays v.stores.cache s ⊎ Fails v.stores.cache s
+
+abbrev pub LeavingCacheKeeps : Type 0
+LeavingCacheKeeps =
+    (v : GroupView) (s : StoreView) → IsWhole v → v.stores.pending ≡ None → LeavesCache v s
+    → Keeps as_it_is None v (with_cache s None v)
+
 -- ---- a request acts on a record
 
--- The request of a call in flight, which has no act, acts on the record that was read, while no
--- work keeps writers out.
+-- The request of a call in flight, which has no act, acts on this state; with the opening of its
+-- name.
+pub record ActsOn (v : GroupView) (call line : ℕ) (q : Req) (b t : NameState) (answer : Reply)
+    (first : Option First) : Type 0 where
+  pub acts : act b q ≡ Fresh t answer
+  pub asked : HasAsked v call line q
+  pub going : IsInFlight v.calls.entries call
+  pub actless : HasNoAct call v.log.acts
+  pub opening : IsFirstOf v.log.opening q.name b first
+
+-- it acts on the record that was read, while no work keeps writers out
 pub record ActsHere (v : GroupView) (call line : ℕ) (q : Req) (r : TierRec) (t : NameState)
     (answer : Reply) (first : Option First) : Type 0 where
   pub up : v.standing.phase ≡ Phase.Up
   pub lets : lets_write (fin.get v.traffic.flights q.name) ≡ true
-  pub acts : act r.state q ≡ Fresh t answer
-  pub asked : HasAsked v call line q
-  pub going : IsInFlight v.calls.entries call
-  pub actless : HasNoAct call v.log.acts
-  pub opening : IsFirstOf v.log.opening q.name r.state first
+  pub on : ActsOn v call line q r.state t answer first
 
 -- Made: the record is dirty, of this moment, and the act enters the history. In doubt: the act is
 -- kept with it. Else nothing.
@@ -122,6 +139,20 @@ ActingHereKeeps =
     → Keeps (with_req q) None v
     (acted_locally first (record { call = call; line = line; req = q; reply = answer }) r t moment s
     result v)
+
+-- A name that is free to writers by the busy table lets them in: also over stores that tell nothing,
+-- where work that the cache should have no record for is ruled out otherwise.
+abbrev pub FreeLetsWrite : Type 0
+FreeLetsWrite =
+    (work : Option Flight) → busy_at work want.Write ≡ None → is_bare work ≡ false
+    → lets_write work ≡ true
+
+-- and where both stores tell and nothing is in doubt it is ruled out by the record
+abbrev pub RecordsAreNotBare : Type 0
+RecordsAreNotBare =
+    (v : GroupView) (k : Name) (r : TierRec) → IsWhole v → BothTell (joined v)
+    → v.stores.pending ≡ None → HasRec (joined v) k (Some r)
+    → is_bare (fin.get v.traffic.flights k) ≡ false
 
 -- ---- a record comes or goes, and the plain store stays
 
@@ -192,6 +223,32 @@ PromotingHereKeeps =
     → Keeps as_it_is None v
     (put_locally k (Some op) None (Some (record { state = b; dirty = false; mtime = moment })) s
     result v)
+
+-- it ends with the act of its request, in one commit
+abbrev pub acted_promoting : (op : ℕ) → Option First → Act → NameState → (moment : ℕ) → StoreView
+    → Outcome → GroupView → GroupView
+acted_promoting op first a t moment s (Ok made) v =
+    record (freed a.req.name (Some op) (with_cache s None v)) {
+      log = acted_log first a v.log;
+      agent = resummed None (Some (acted_record t moment)) v.agent;
+    }
+acted_promoting op first a t moment s (Err Disk) v =
+    freed a.req.name (Some op) (with_cache s (Some (Pending.Act Cache first a t.seq)) v)
+acted_promoting op first a t moment s (Err (BadImage at)) v = with_cache s None v
+acted_promoting op first a t moment s (Err (NoSpace used need limit)) v = with_cache s None v
+acted_promoting op first a t moment s (Err (Worn limit)) v = with_cache s None v
+acted_promoting op first a t moment s (Err NoMemory) v = with_cache s None v
+
+abbrev pub PromotingActsHereKeeps : Type 0
+PromotingActsHereKeeps =
+    (v : GroupView) (call line : ℕ) (q : Req) (waiter op : ℕ) (gather : List Chunk) (ask : Ask)
+    (b t : NameState) (answer : Reply) (first : Option First) (moment : ℕ) (o : Option (List ℕ))
+    (s : StoreView) (result : Outcome) → IsWhole v → v.stores.pending ≡ None
+    → PromotesHere v q.name waiter op gather ask b → ActsOn v call line q b t answer first
+    → PutsRec v q.name None (Some (acted_record t moment)) o s result
+    → Keeps (with_req q) None v
+    (acted_promoting op first (record { call = call; line = line; req = q; reply = answer }) t moment
+    s result v)
 
 -- ---- what an answer behind them rests on
 
