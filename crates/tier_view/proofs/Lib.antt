@@ -11,3 +11,10 @@ pub mod Delivered
 pub mod Settling
 pub mod Stopping
 pub mod Refusals
+pub mod StartingRests
+pub mod StartingLosses
+pub mod StartingStores
+pub mod StartingOpenings
+pub mod StartingRaises
+pub mod StartingFences
+pub mod StartingReady

@@ -17,3 +17,4 @@ pub mod Laws
 pub mod Stops
 pub mod Changes
 pub mod Lies
+pub mod Starts
