@@ -1,5 +1,5 @@
--- The base stops; what is lost; a store is opened anew; the cache's epoch is raised; a Fence is sent
--- and told; and what a ready group has.
+-- The base stops; what is lost; a store is opened anew; the cache's epoch is raised; a Fence is
+-- sent and told; and what a ready group has.
 use Rattle.std.specs.Prelude.{◌≡◌, ◌≢◌, ◌≤◌, ◌<◌, ◌⊎◌, ℕ, ◌+◌, max, true, false, List, Option, Some, None, Ok, Err}
 use Rattle.agent_state.specs.declared.totals.Totals.{Totals}
 use Rattle.obj_model.specs.Limits.{number_limit}
@@ -91,8 +91,8 @@ abbrev pub placed : Pool → StoreView → Stores → Stores
 placed Cache s x = record x { cache = s }
 placed Base s x = record x { base = s }
 
--- The opening, or the reading behind it, failed: whether the pool was stopped, and what is in doubt,
--- stays as it was.
+-- The opening, or the reading behind it, failed: whether the pool was stopped, and what is in
+-- doubt, stays as it was.
 abbrev pub unopened : Pool → StoreView → GroupView → GroupView
 unopened pool s v = record v { stores = placed pool s v.stores }
 
@@ -179,8 +179,8 @@ ReadingsBehindOpenings =
     (old opened read : StoreView) → Among old opened → read.moments ≡ opened.moments
     → Among old read
 
--- Where an opening of the cache failed nothing is asked of the totals: the store is not live, or the
--- cache was stopped, or its doubt stands.
+-- Where an opening of the cache failed nothing is asked of the totals: the store is not live, or
+-- the cache was stopped, or its doubt stands.
 abbrev pub UnopenedCachesAskNoSums : Type 0
 UnopenedCachesAskNoSums =
     (v : GroupView) (s : StoreView)
