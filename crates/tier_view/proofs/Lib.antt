@@ -29,3 +29,10 @@ pub mod LocalPuts
 pub mod LocalPromotes
 pub mod LocalFrees
 pub mod LocalFacts
+pub mod StartingRests
+pub mod StartingLosses
+pub mod StartingStores
+pub mod StartingOpenings
+pub mod StartingRaises
+pub mod StartingFences
+pub mod StartingReady

@@ -19,3 +19,4 @@ pub mod Changes
 pub mod Serves
 pub mod Locals
 pub mod Lies
+pub mod Starts

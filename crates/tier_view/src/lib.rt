@@ -15,6 +15,7 @@ mod locals;
 mod parts;
 mod serves;
 mod slice;
+mod starts;
 mod stops;
 
 pub use general::{steps_keep, whole_is_group};
@@ -38,5 +39,11 @@ pub use serves::{
 pub use slice::{
     beginning_writes_keeps, delivering_acts_keeps, opening_calls_keeps, sending_writes_keeps,
     settling_acts_keeps,
+};
+pub use starts::{
+    answering_fences_keeps, ending_notes_keeps, ending_waits_keeps, epochs_are_there,
+    hearing_fenced_keeps, losing_messages_keeps, losing_replies_keeps, opening_base_leaves_sums,
+    opening_stores_keeps, raises_have_their_limit, raising_there_keeps, readings_behind_openings,
+    ready_groups_serve, sending_fences_keeps, stopping_base_keeps, unopened_caches_ask_no_sums,
 };
 pub use stops::stopping_cache_keeps;
