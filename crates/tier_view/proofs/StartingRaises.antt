@@ -29,7 +29,8 @@ use Rattle.tier_protocol.proofs.Owners.{quiet_keeps}
 use Rattle.tier_protocol.proofs.Steps.{finding, raising}
 use Rattle.tier_view.specs.Grows.{in_cache, no_commit}
 use Rattle.tier_view.specs.Laws.{Keeps}
-use Rattle.tier_view.specs.Starts.{RaisesHaveTheirLimit, RaisesThere, RaisingThereKeeps, raised_in, raised_there, with_cache}
+use Rattle.tier_view.specs.Locals.{with_cache}
+use Rattle.tier_view.specs.Starts.{RaisesHaveTheirLimit, RaisesThere, RaisingThereKeeps, raised_in, raised_there}
 use Rattle.tier_view.specs.Stores.{Pending, doubt_in}
 use Rattle.tier_view.specs.Views.{GroupView, joined, ledger_in}
 use Rattle.tier_view.specs.Whole.{IsElsewhere, IsWhole}

@@ -22,6 +22,7 @@ use Rattle.tier_view.specs.Laws.{Keeps}
 use Rattle.tier_view.specs.Settles.{settled, settled_with}
 use Rattle.tier_view.specs.Standing.{Standing}
 use Rattle.tier_view.specs.Steps.{sent_now}
+use Rattle.tier_view.specs.Locals.{with_cache}
 use Rattle.tier_view.specs.Stores.{Pending, Stores}
 use Rattle.tier_view.specs.Traffic.{Replied}
 use Rattle.tier_view.specs.Views.{GroupView, joined}
@@ -199,10 +200,6 @@ OpeningBaseLeavesSums =
     → AreSums (settled Base s v.agent.totals v).stores v.agent)
 
 -- ---- the cache's epoch is raised
-
--- the group with this store of the cache, and a doubt or none
-abbrev pub with_cache : StoreView → Option Pending → GroupView → GroupView
-with_cache s p v = record v { stores = record v.stores { cache = s; pending = p } }
 
 -- Made: the cache is raised. In doubt: the epoch is kept. Else nothing.
 abbrev pub raised_there : (epoch : ℕ) → StoreView → Outcome → GroupView → GroupView
