@@ -4,6 +4,8 @@
 //! A record is a gate (1 byte), the payload's length (4 bytes, the greatest first) and the payload;
 //! behind the last record stands one more gate. A gate of value 1 is open; any other is closed and
 //! ends the journal.
+//!
+//! Its page is `docs/formats/journal.md`.
 #![tactic(auto)]
 
 mod adding;

@@ -3,6 +3,8 @@
 //! A log is a journal whose first record tells what kind of disk it is, of which pool and of which
 //! pair of pools; each record behind it is a transaction, and the map is what they make of the
 //! empty one, in their order.
+//!
+//! Its page is `docs/formats/log_store.md`.
 #![tactic(auto)]
 
 mod blank;

@@ -1,9 +1,10 @@
 -- Reading from left to right: a value and the bytes after it, or nothing.
-use Rattle.std.specs.Prelude.{◌≡◌, ℕ, zero, suc, ◌^◌, Bool, true, not, List, [], ◌∷◌, length, take, drop, Option, Some, None, Result, Ok, Err, nat_lt, nat_le, is_some, bytes_eq, ◌==◌, ◌&&◌, if◌then◌else◌}
+use Rattle.std.specs.Prelude.{◌≡◌, ℕ, zero, suc, Bool, true, not, List, [], ◌∷◌, length, take, drop, Option, Some, None, Result, Ok, Err, nat_lt, nat_le, is_some, bytes_eq, ◌==◌, ◌&&◌, if◌then◌else◌}
 use Rattle.std.specs.List.{list_any}
 use Rattle.std.specs.Ordering.{is_lt}
 use Rattle.std.specs.FinMap as fin
 use Rattle.byteorder.specs.Endian.{big_number}
+use Rattle.obj_model.specs.Limits.{attrs_limit, body_limit, number_limit, omap_limit, value_limit}
 use Rattle.obj_model.specs.Names.{name_cmp, name_fault}
 use Rattle.obj_model.specs.declared.change.Change.{Change}
 use Rattle.obj_model.specs.declared.change.Change.TheVariants.{Put, Remove}
@@ -120,7 +121,7 @@ reply_at = behind_at (number_at 1) reply_behind
 -- a kept request
 unfoldable pub kept_at : Reader Kept
 kept_at = as_at (then_at (if_at (number_at 2) (λ client. nat_le 1 client && nat_le client 256))
-    (λ _. then_at (if_at (number_at 8) (λ tid. nat_le tid (2 ^ 62))) (λ _. reply_at)))
+    (λ _. then_at (if_at (number_at 8) (λ tid. nat_le tid number_limit)) (λ _. reply_at)))
     (λ k. record {
       client = k.0;
       tid = k.1.0;
@@ -129,7 +130,7 @@ kept_at = as_at (then_at (if_at (number_at 2) (λ client. nat_le 1 client && nat
 
 -- an entry of a table
 unfoldable pub pair_at : Reader Entry
-pair_at = then_at name_at (λ _. string_at 4096)
+pair_at = then_at name_at (λ _. string_at value_limit)
 
 -- so many entries, behind one with this key
 abbrev pub pairs_at : List ℕ → ℕ → Reader (List Entry)
@@ -152,7 +153,8 @@ kept_list_at = behind_at (number_at 2) (kepts_at 0)
 
 -- an object
 unfoldable pub object_at : Reader Obj
-object_at = as_at (then_at (string_at 1048576) (λ _. then_at (table_at 64) (λ _. table_at 1024)))
+object_at = as_at
+    (then_at (string_at body_limit) (λ _. then_at (table_at attrs_limit) (λ _. table_at omap_limit)))
     (λ o. record {
       body = o.0;
       attrs = o.1.0;
@@ -171,7 +173,7 @@ object_or_none_at = behind_at (number_at 1) object_behind
 -- a state
 unfoldable pub state_at : Reader NameState
 state_at = as_at (then_at (number_at 8)
-    (λ ver. then_at (if_at (number_at 8) (λ seq. nat_le ver seq && nat_le seq (2 ^ 62)))
+    (λ ver. then_at (if_at (number_at 8) (λ seq. nat_le ver seq && nat_le seq number_limit))
     (λ _. then_at object_or_none_at (λ _. kept_list_at)))) (λ s. record {
       ver = s.0;
       seq = s.1.0;

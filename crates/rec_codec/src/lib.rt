@@ -2,6 +2,8 @@
 //!
 //! A writer gives the spelling of its value, and a reader gives the value that the bytes, all of
 //! them, spell. The blocks of the spellings are there for other crates too.
+//!
+//! Its page is `docs/formats/records.md`.
 #![tactic(auto)]
 
 pub mod blocks;

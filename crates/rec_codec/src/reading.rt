@@ -14,20 +14,11 @@ use crate::blocks::{bytes_at, name_at, u8_at, u16_at, u64_at};
 use crate::fault::ReadError;
 use crate::replies::kept_at;
 use obj_model::{
-    Bytes, Items, KeptList, NUMBER_LIMIT, Name, NameMap, NameState, NoMemory, Obj, PairMap,
+    ATTRS_LIMIT, BODY_LIMIT, Bytes, Items, KeptList, NUMBER_LIMIT, Name, NameMap, NameState,
+    NoMemory, OMAP_LIMIT, Obj, PairMap, VALUE_LIMIT,
 };
 use std::alloc::Global;
 use std::cmp::Ordering;
-
-// The most bytes of a body and of a value.
-const BODY_LIMIT: u32 = 1_048_576;
-
-const VALUE_LIMIT: u32 = 4096;
-
-// The most attributes and omap entries of an object.
-const ATTR_LIMIT: u16 = 64;
-
-const OMAP_LIMIT: u16 = 1024;
 
 // A key with its value, the bytes of the key where they stand, and the bytes after the value.
 #[tactic(auto, unfolding(crate::specs::Reading::pair_at))]
@@ -36,7 +27,7 @@ fn pair_at(alloc: Global, bytes: &[u8]) -> Result<(Name, Bytes, &[u8], &[u8]), R
     ensures text { IfOk result (λ x. x.2.now ≡ x.0) }
 {
     let (text, key, rest) = name_at(alloc, bytes)?;
-    let (value, rest) = bytes_at(alloc, rest, VALUE_LIMIT)?;
+    let (value, rest) = bytes_at(alloc, rest, VALUE_LIMIT as u32)?;
     Ok((key, value, text, rest))
 }
 
@@ -115,9 +106,9 @@ fn kept_list_at(alloc: Global, bytes: &[u8]) -> Result<(KeptList, &[u8]), ReadEr
 fn object_at(alloc: Global, bytes: &[u8]) -> Result<(Obj, &[u8]), ReadError>
     ensures { Gives (λ x. (x.0, x.1.now)) result (object_at bytes.now) }
 {
-    let (body, rest) = bytes_at(alloc, bytes, BODY_LIMIT)?;
-    let (attrs, rest) = table_at(alloc, rest, ATTR_LIMIT)?;
-    let (omap, rest) = table_at(alloc, rest, OMAP_LIMIT)?;
+    let (body, rest) = bytes_at(alloc, bytes, BODY_LIMIT as u32)?;
+    let (attrs, rest) = table_at(alloc, rest, ATTRS_LIMIT as u16)?;
+    let (omap, rest) = table_at(alloc, rest, OMAP_LIMIT as u16)?;
     Ok((Obj { body, attrs, omap }, rest))
 }
 

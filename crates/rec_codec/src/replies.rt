@@ -4,7 +4,7 @@ ghost use Rattle.rec_codec.specs.Reading.{Gives, why_at, reply_at, kept_at};
 
 use crate::blocks::{u8_at, u16_at, u64_at};
 use crate::fault::ReadError;
-use obj_model::{Kept, NUMBER_LIMIT, Reply, VECTOR_LIMIT, Why};
+use obj_model::{CLIENT_LIMIT, Kept, NUMBER_LIMIT, Reply, VECTOR_LIMIT, Why};
 
 /// The reason of a refusal.
 #[tactic(auto, unfolding(crate::specs::Reading::why_at, crate::specs::Reading::plain_why))]
@@ -68,6 +68,3 @@ pub(crate) fn kept_at(bytes: &[u8]) -> Result<(Kept, &[u8]), ReadError>
     let (reply, rest) = reply_at(rest)?;
     Ok((Kept { client, tid, reply }, rest))
 }
-
-// The greatest client.
-const CLIENT_LIMIT: u16 = 256;

@@ -3,6 +3,8 @@
 //!
 //! Each text is put into a buffer that the caller reuses, and is exactly that of its definition
 //! (`specs/`).
+//!
+//! Its page is `docs/formats/answers.md`.
 #![tactic(auto)]
 
 mod answers;

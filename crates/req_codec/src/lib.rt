@@ -2,6 +2,8 @@
 //!
 //! The writer gives the spelling of a request, and the reader gives the request that the bytes, all
 //! of them, spell.
+//!
+//! Its page is `docs/formats/records.md`.
 #![tactic(auto)]
 
 mod laws;

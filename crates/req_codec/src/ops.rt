@@ -3,19 +3,16 @@ ghost use Rattle.std.specs.Prelude.{◌≡◌};
 ghost use Rattle.rec_codec.specs.Reading.{Gives, name_at};
 ghost use Rattle.req_codec.specs.Reading.{text_at, after_at, among, body_rows, table_rows, guard_rows, read_rows, op_at};
 
-use obj_model::{Bytes, Name, SubOp};
+use obj_model::{Bytes, Name, PAYLOAD_LIMIT, SubOp};
 use rec_codec::ReadError;
 use rec_codec::blocks::{bytes_at, name_at, u8_at, u64_at};
 use std::alloc::Global;
 
-// The most bytes that a vector carries, and so one of its sub-operations.
-const TEXT_LIMIT: u32 = 16_777_216;
-
-// Bytes that a sub-operation carries.
+// Bytes that a sub-operation carries: no more than its vector may.
 fn text_at(alloc: Global, bytes: &[u8]) -> Result<(Bytes, &[u8]), ReadError>
     ensures { Gives (λ x. (x.0, x.1.now)) result (text_at bytes.now) }
 {
-    bytes_at(alloc, bytes, TEXT_LIMIT)
+    bytes_at(alloc, bytes, PAYLOAD_LIMIT as u32)
 }
 
 /// A name at the front, and the bytes after it.

@@ -9,13 +9,10 @@ ghost use Rattle.rec_codec.specs.Reading.{Gives, whole};
 ghost use Rattle.req_codec.specs.Reading.{ops_at, vector_at, req_at};
 
 use crate::ops::{key_at, op_at};
-use obj_model::{NUMBER_LIMIT, NoMemory, Req, SubOp, Vector};
+use obj_model::{CLIENT_LIMIT, NUMBER_LIMIT, NoMemory, Req, SubOp, Vector};
 use rec_codec::ReadError;
 use rec_codec::blocks::{u8_at, u16_at, u64_at};
 use std::alloc::Global;
-
-// The greatest client.
-const CLIENT_LIMIT: u16 = 256;
 
 // So many sub-operations.
 fn ops_at(alloc: Global, count: u8, bytes: &[u8]) -> Result<(Vec<SubOp>, &[u8]), ReadError>

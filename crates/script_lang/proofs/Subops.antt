@@ -12,7 +12,8 @@ use Rattle.obj_model.specs.declared.sub_op.SubOp.TheVariants as op
 use Rattle.script_lang.specs.declared.verbs.OpVerb.{OpVerb}
 use Rattle.script_lang.specs.declared.verbs.OpVerb.TheVariants as verb
 use Rattle.script_lang.specs.Verbs.{op_word, op_verbs, op_verb_of, verb_among, verb_of}
-use Rattle.script_lang.specs.Spelling.{Field, Number, Hex, Key, After, IsField, IsOp, field_word, fields, op_words, vector_words, bytes_word}
+use Rattle.obj_model.specs.Fields.{Field, Number, Bytes, Key, After, fields}
+use Rattle.script_lang.specs.Spelling.{IsField, IsOp, field_word, op_words, vector_words, bytes_word}
 use Rattle.script_lang.specs.Reading.{TakenOp, after_at, after_of, alone, bytes_at, bytes_of, field_at, first_of, if_some, if_vector, is_of_kind, name_at, name_of, number_at, number_of, of_one, of_two, op_at, op_from, op_of, ops_behind, ops_of, ops_within, or_cause, put_first, rest_of, unknown, vector_of, word_at}
 use Rattle.script_lang.specs.declared.cause.Cause.{Cause}
 use Rattle.script_lang.specs.declared.cause.Cause.TheVariants as cause
@@ -188,7 +189,7 @@ alone-sound o none words t h =
 number : IsSound number_at Number
 number words n h = number_at-sound words n h
 
-hex : IsSound bytes_at Hex
+hex : IsSound bytes_at Bytes
 hex words bytes h = bytes_at-sound words bytes h
 
 key : IsSound name_at Key
@@ -201,15 +202,15 @@ op_of-sound : (v : OpVerb) (words : List (List ℕ)) (t : TakenOp) → op_of v w
     → IsTaken (op_word v ∷ words) t.0 t.1
 op_of-sound verb.Create words t h = alone-sound op.Create refl words t h
 op_of-sound verb.WriteFull words t h =
-    of_one-sound bytes_at Hex op.WriteFull verb.WriteFull hex (record {
+    of_one-sound bytes_at Bytes op.WriteFull verb.WriteFull hex (record {
       verb = λ x. refl;
       fields = λ x. refl;
     }) words t h
 op_of-sound verb.Write words t h =
-    of_two-sound number_at bytes_at Number Hex op.Write verb.Write number hex
+    of_two-sound number_at bytes_at Number Bytes op.Write verb.Write number hex
     (record { verb = λ x y. refl; fields = λ x y. refl }) words t h
 op_of-sound verb.Append words t h =
-    of_one-sound bytes_at Hex op.Append verb.Append hex (record {
+    of_one-sound bytes_at Bytes op.Append verb.Append hex (record {
       verb = λ x. refl;
       fields = λ x. refl;
     }) words t h
@@ -223,7 +224,7 @@ op_of-sound verb.Truncate words t h =
     }) words t h
 op_of-sound verb.Remove words t h = alone-sound op.Remove refl words t h
 op_of-sound verb.SetXattr words t h =
-    of_two-sound name_at bytes_at Key Hex op.SetXattr verb.SetXattr key hex
+    of_two-sound name_at bytes_at Key Bytes op.SetXattr verb.SetXattr key hex
     (record { verb = λ x y. refl; fields = λ x y. refl }) words t h
 op_of-sound verb.RmXattr words t h =
     of_one-sound name_at Key op.RmXattr verb.RmXattr key (record {
@@ -231,7 +232,7 @@ op_of-sound verb.RmXattr words t h =
       fields = λ x. refl;
     }) words t h
 op_of-sound verb.OmapSet words t h =
-    of_two-sound name_at bytes_at Key Hex op.OmapSet verb.OmapSet key hex
+    of_two-sound name_at bytes_at Key Bytes op.OmapSet verb.OmapSet key hex
     (record { verb = λ x y. refl; fields = λ x y. refl }) words t h
 op_of-sound verb.OmapRm words t h =
     of_one-sound name_at Key op.OmapRm verb.OmapRm key (record {
@@ -246,7 +247,7 @@ op_of-sound verb.AssertVer words t h =
       fields = λ x. refl;
     }) words t h
 op_of-sound verb.CmpXattr words t h =
-    of_two-sound name_at bytes_at Key Hex op.CmpXattr verb.CmpXattr key hex
+    of_two-sound name_at bytes_at Key Bytes op.CmpXattr verb.CmpXattr key hex
     (record { verb = λ x y. refl; fields = λ x y. refl }) words t h
 op_of-sound verb.Read words t h =
     of_two-sound number_at number_at Number Number op.Read verb.Read number number

@@ -1,11 +1,12 @@
 -- What the words of a line say, or the first cause from the left why they say nothing.
-use Rattle.std.specs.Prelude.{ℕ, zero, suc, ◌^◌, ◌==◌, ◌&&◌, ◌||◌, not, nat_le, nat_lt, Bool, true, false, List, [], ◌∷◌, length, slice_index, Option, Some, None, Result, Ok, Err, if◌then◌else◌, bytes_eq, codes}
+use Rattle.std.specs.Prelude.{ℕ, zero, suc, ◌==◌, ◌&&◌, ◌||◌, not, nat_le, nat_lt, Bool, true, false, List, [], ◌∷◌, length, slice_index, Option, Some, None, Result, Ok, Err, if◌then◌else◌, bytes_eq, codes}
 use Rattle.std.specs.List.{slice_split, list_all, list_any}
 use Rattle.std.specs.Option.{option_map}
 use Rattle.std.specs.Result.{result_ok}
 use Rattle.std.specs.Char.{is_ascii_digit}
 use Rattle.std.specs.Str.Parse.{digits_value}
 use Rattle.hex.specs.Hex.{decode_of}
+use Rattle.obj_model.specs.Limits.{number_limit}
 use Rattle.obj_model.specs.Names.{name_fault}
 use Rattle.obj_model.specs.SubOps.{is_write}
 use Rattle.obj_model.specs.Vectors.{vector_fault}
@@ -115,7 +116,7 @@ is_numeral word = nat_le 1 (length word) && nat_le (length word) 19 && list_all 
 -- the number of a word, if it is one of at most 2^62
 unfoldable pub number_of : List ℕ → Option ℕ
 number_of word =
-    where_true (is_numeral word && nat_le (digits_value 10 word) (2 ^ 62)) (digits_value 10 word)
+    where_true (is_numeral word && nat_le (digits_value 10 word) number_limit) (digits_value 10 word)
 
 -- a hexadecimal digit, in lower case
 abbrev pub is_lower_digit : ℕ → Bool

@@ -1,14 +1,15 @@
 -- How a line is spelled. Each line has one spelling.
-use Rattle.std.specs.Prelude.{◌≡◌, ◌≤◌, ◌^◌, ℕ, true, false, List, [], ◌∷◌, ◌++◌, map, Option, Some, None, decimal, codes, All}
+use Rattle.std.specs.Prelude.{◌≡◌, ◌≤◌, ℕ, true, false, List, [], ◌∷◌, ◌++◌, map, Option, Some, None, decimal, codes, All}
 use Rattle.std.specs.List.{AllByRecursion, join_with_byte, list_any}
 use Rattle.hex.specs.Hex.{encode_lower, IsBytes}
+use Rattle.obj_model.specs.Fields.{Field, Number, Bytes, Key, After, fields}
+use Rattle.obj_model.specs.Limits.{number_limit}
 use Rattle.obj_model.specs.Names.{name_fault}
 use Rattle.obj_model.specs.SubOps.{is_write}
 use Rattle.obj_model.specs.Vectors.{vector_fault}
 use Rattle.obj_model.specs.declared.tier.Mode.{Mode}
 use Rattle.obj_model.specs.declared.tier.Mode.TheVariants.{Writeback, Readproxy, Proxy}
 use Rattle.obj_model.specs.declared.sub_op.SubOp.{SubOp}
-use Rattle.obj_model.specs.declared.sub_op.SubOp.TheVariants as op
 use Rattle.script_lang.specs.declared.line.Line.{Line}
 use Rattle.script_lang.specs.declared.line.Line.TheVariants as line
 use Rattle.script_lang.specs.declared.verbs.LineVerb.TheVariants as verb
@@ -19,52 +20,21 @@ abbrev pub bytes_word : List ℕ → List ℕ
 bytes_word [] = codes "-"
 bytes_word (b ∷ bytes) = encode_lower (b ∷ bytes)
 
--- a field of a sub-operation: what one of its words stands for
-pub data Field : Type 0 where
-  Number : ℕ → Field
-  Hex : List ℕ → Field
-  Key : List ℕ → Field
-  After : Option (List ℕ) → Field
-
 -- the word of a field; a dash stands for no key
 abbrev pub field_word : Field → List ℕ
 field_word (Number n) = decimal n
-field_word (Hex bytes) = bytes_word bytes
+field_word (Bytes bytes) = bytes_word bytes
 field_word (Key key) = key
 field_word (After None) = codes "-"
 field_word (After (Some key)) = key
 
 -- what a field carries can be spelled: a number up to 2^62, bytes, a name
 abbrev pub IsField : Field → Type 0
-IsField (Number n) = n ≤ 2 ^ 62
-IsField (Hex bytes) = IsBytes bytes
+IsField (Number n) = n ≤ number_limit
+IsField (Bytes bytes) = IsBytes bytes
 IsField (Key key) = name_fault key ≡ None
 IsField (After None) = Unit {0}
 IsField (After (Some key)) = name_fault key ≡ None
-
--- the fields of a sub-operation, in the order of their words
-abbrev pub fields : SubOp → List Field
-fields op.Create = []
-fields (op.WriteFull bytes) = Hex bytes ∷ []
-fields (op.Write off bytes) = Number off ∷ Hex bytes ∷ []
-fields (op.Append bytes) = Hex bytes ∷ []
-fields (op.Zero off len) = Number off ∷ Number len ∷ []
-fields (op.Truncate size) = Number size ∷ []
-fields op.Remove = []
-fields (op.SetXattr key bytes) = Key key ∷ Hex bytes ∷ []
-fields (op.RmXattr key) = Key key ∷ []
-fields (op.OmapSet key bytes) = Key key ∷ Hex bytes ∷ []
-fields (op.OmapRm key) = Key key ∷ []
-fields op.OmapClear = []
-fields op.AssertExists = []
-fields (op.AssertVer ver) = Number ver ∷ []
-fields (op.CmpXattr key bytes) = Key key ∷ Hex bytes ∷ []
-fields (op.Read off len) = Number off ∷ Number len ∷ []
-fields op.Stat = []
-fields (op.GetXattr key) = Key key ∷ []
-fields op.ListXattrs = []
-fields (op.OmapGet key) = Key key ∷ []
-fields (op.OmapList after max) = After after ∷ Number max ∷ []
 
 -- the words of a sub-operation: its verb and its fields
 abbrev pub op_words : SubOp → List (List ℕ)
@@ -130,7 +100,7 @@ IsName name = name_fault name ≡ None
 -- a line that can be spelled; a request writes, and a reading does not
 abbrev pub IsLine : Line → Type 0
 IsLine (line.Op req) =
-    IsAddressed req.client req.name req.vector × (req.tid ≤ 2 ^ 62)
+    IsAddressed req.client req.name req.vector × (req.tid ≤ number_limit)
     × (list_any is_write req.vector ≡ true)
 IsLine (line.Get client name vector) = IsAddressed client name vector
     × (list_any is_write vector ≡ false)
@@ -143,7 +113,7 @@ IsLine (line.Evict name) = IsName name
 IsLine line.Drain = Unit {0}
 IsLine line.Agent = Unit {0}
 IsLine (line.SetMode mode) = Unit {0}
-IsLine (line.SetTime moment) = moment ≤ 2 ^ 62
+IsLine (line.SetTime moment) = moment ≤ number_limit
 IsLine line.StopCache = Unit {0}
 IsLine line.StopBase = Unit {0}
 IsLine line.Par = Unit {0}

@@ -7,11 +7,8 @@ ghost use Rattle.script_lang.specs.Reading.{after_of, bytes_of, client_of, fit, 
 
 use crate::cause::{Cause, LineFault};
 use crate::values::{read_after, read_bytes, read_name, read_number};
-use obj_model::{Bytes, Name};
+use obj_model::{Bytes, CLIENT_LIMIT, Name};
 use std::alloc::Global;
-
-/// The greatest number of a client. They begin at 1.
-const CLIENT_LIMIT: u64 = 256;
 
 /// A word as a number.
 pub(crate) fn number_in(word: Option<&[u8]>) -> Result<u64, LineFault>
@@ -30,7 +27,7 @@ pub(crate) fn number_in(word: Option<&[u8]>) -> Result<u64, LineFault>
 pub(crate) fn client_in(number: u64) -> Result<u16, LineFault>
     ensures { Tells result (client_of number) }
 {
-    if number >= 1 && number <= CLIENT_LIMIT {
+    if number >= 1 && number <= u64::from(CLIENT_LIMIT) {
         Ok(number as u16)
     } else {
         Err(LineFault::Wrong(Cause::Client))

@@ -6,6 +6,8 @@
 //! and else the first line that is none, with its cause. `print_line` puts the spelling of a line.
 //! `script_laws` has what follows: a text has one reading or one fault, and what is printed is read
 //! back.
+//!
+//! Its page is `docs/formats/scripts.md`.
 #![tactic(auto)]
 
 mod cause;

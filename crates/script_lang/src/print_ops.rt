@@ -1,8 +1,8 @@
 //! Sub-operations as words, each behind a space: the verb, and the fields by their shape.
 ghost use Rattle.std.specs.Prelude.{◌≡◌, ◌++◌, OnOk, codes, decimal, map};
 ghost use Rattle.script_lang.specs.Printing.{all_spaced, op_text, ops_text, spaced};
-ghost use Rattle.script_lang.specs.Spelling.{bytes_word, field_word, fields};
-ghost use Rattle.script_lang.specs.Spelling.Field.{After};
+ghost use Rattle.obj_model.specs.Fields.{After, fields};
+ghost use Rattle.script_lang.specs.Spelling.{bytes_word, field_word};
 ghost use Rattle.script_lang.specs.Verbs.{verb_of};
 
 use crate::Text;

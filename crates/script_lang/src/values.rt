@@ -8,13 +8,10 @@ ghost use Rattle.std.specs.Str.Parse.{digits_value};
 ghost use Rattle.script_lang.specs.Reading.{is_numeral, is_lower_digit, number_of, bytes_of, name_of, after_of};
 
 use hex::FromHexError;
-use obj_model::{Bytes, Name, NoMemory};
+use obj_model::{Bytes, NUMBER_LIMIT, Name, NoMemory};
 use std::alloc::Global;
 
-/// The greatest number of a script: 2^62.
-const NUMBER_LIMIT: u64 = 1 << 62;
-
-/// The most digits of such a number.
+/// The most digits of a number.
 const DIGITS_LIMIT: usize = 19;
 
 /// The number of the word.

@@ -3,6 +3,7 @@ use Rattle.std.proofs.Common.{◌≡◌, ℕ, zero, suc, ◌^◌, ◌≤◌, Boo
 use Rattle.std.specs.List.{All, AllByRecursion}
 use Rattle.std.proofs.lemmas.List.Elements.{recursion_from_All}
 use Rattle.hex.specs.Hex.{IsBytes}
+use Rattle.obj_model.specs.Fields.{Field, Number, Bytes, Key, After, fields}
 use Rattle.obj_model.specs.Names.{name_fault}
 use Rattle.obj_model.specs.Vectors.{vector_fault}
 use Rattle.obj_model.specs.declared.sub_op.SubOp.{SubOp}
@@ -10,7 +11,7 @@ use Rattle.obj_model.specs.declared.sub_op.SubOp.TheVariants as op
 use Rattle.script_lang.specs.declared.verbs.OpVerb.{OpVerb}
 use Rattle.script_lang.specs.declared.verbs.OpVerb.TheVariants as verb
 use Rattle.script_lang.specs.Verbs.{op_word, op_verb_of, verb_of}
-use Rattle.script_lang.specs.Spelling.{Field, Number, Hex, Key, After, IsField, IsOp, field_word, fields, op_words, vector_words, bytes_word}
+use Rattle.script_lang.specs.Spelling.{IsField, IsOp, field_word, op_words, vector_words, bytes_word}
 use Rattle.script_lang.specs.Reading.{after_at, after_of, bytes_at, is_of_kind, name_at, number_at, op_at, op_of, ops_within, vector_of}
 use Rattle.script_lang.proofs.Joined.{IsWord, IsWords, IsWords-append, field_at-word, literal_is_word, word_at-word}
 use Rattle.script_lang.proofs.Names.{name_of-name, name_is_not, name_is_word}
@@ -151,7 +152,7 @@ op_at-words o rest h =
 
 field_is_word : (f : Field) → IsField f → IsWord (field_word f)
 field_is_word (Number n) h = decimal_is_word n h
-field_is_word (Hex bytes) h = bytes_is_word bytes h
+field_is_word (Bytes bytes) h = bytes_is_word bytes h
 field_is_word (Key k) h = name_is_word k h
 field_is_word (After None) h = literal_is_word (codes "-") refl
 field_is_word (After (Some k)) h = name_is_word k h

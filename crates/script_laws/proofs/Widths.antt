@@ -12,6 +12,7 @@ use Rattle.obj_model.specs.Names.{byte_fault, is_wrong_byte}
 use Rattle.obj_model.specs.SubOps.{payload}
 use Rattle.obj_model.specs.Vectors.{far_place, fault_or, mixed_place, payload_of, vector_fault}
 use Rattle.obj_model.specs.declared.name.BadName.TheVariants as bad_name
+use Rattle.obj_model.specs.Fields.{After, Bytes, Field, Key, Number, fields}
 use Rattle.obj_model.specs.declared.sub_op.SubOp.{SubOp}
 use Rattle.obj_model.specs.declared.sub_op.SubOp.TheVariants as op
 use Rattle.obj_model.specs.declared.tier.Mode.{Mode}
@@ -20,14 +21,14 @@ use Rattle.obj_model.specs.declared.vector.BadVector.TheVariants.{Empty, TooMany
 use Rattle.script_lang.specs.declared.line.Line.{Line}
 use Rattle.script_lang.specs.declared.line.Line.TheVariants as line
 use Rattle.script_lang.specs.Printing.{all_spaced, next_op_text, op_text, ops_text, spaced}
-use Rattle.script_lang.specs.Spelling.{After, Field, Hex, IsAddressed, IsField, IsLine, IsName, IsOp, Key, Number, field_word, fields, mode_word, spelling, vector_words}
+use Rattle.script_lang.specs.Spelling.{IsAddressed, IsField, IsLine, IsName, IsOp, field_word, mode_word, spelling, vector_words}
 use Rattle.script_lang.specs.Verbs.{op_word, verb_of}
 use Rattle.script_lang.proofs.Printed.{joined_is_spaced, ops_are_spaced}
 
 -- the bytes that a field carries
 abbrev weight : Field → ℕ
 weight (Number n) = 0
-weight (Hex bytes) = length bytes
+weight (Bytes bytes) = length bytes
 weight (Key key) = length key
 weight (After None) = 0
 weight (After (Some key)) = length key
@@ -42,8 +43,8 @@ number_width n h = length-decimal-le 19 n (omega arith) (omega arith) (omega ari
 
 word_width : (field : Field) → IsField field → length (field_word field) ≤ 2 * weight field + 20
 word_width (Number n) h = let width = number_width n h in omega arith
-word_width (Hex []) h = omega arith
-word_width (Hex (b ∷ bytes)) h =
+word_width (Bytes []) h = omega arith
+word_width (Bytes (b ∷ bytes)) h =
     let width = length-encode_with lower_digits (b ∷ bytes) in
     omega arith
 word_width (Key key) h = omega arith

@@ -2,6 +2,8 @@
 //! disk that may stop at any moment. Each tells what a call does to what stands out there, and that
 //! a fault is answered only where the thing itself failed. Forms in memory fail where they are told
 //! to; adapters go over std's reader and writer.
+//!
+//! Its page is `docs/formats/disks.md`.
 #![tactic(auto)]
 
 mod calls;
