@@ -226,14 +226,13 @@ module _ (v w : GroupView) (m : Sent) (opened : Bool) (new : BaseView) (b : Name
   stayed a is = (None, leaves new.store (record { moments = a.store.moments; later = inl a.store }) refl is)
 
   by_disk : FailsReading m.message (base_of opened v) new ⊎ FailsCommit m.message (base_of opened v) new → w ≡ with_base new.store p v → IsStep m v w
-  by_disk (inl a) is = (None, fails b new.store p (record { on = h.on; reads = h.reads; doubt = h.doubt; fails = a.fails.fails; maps = inl a.same }) refl is)
+  by_disk (inl a) is = (None, fails b new.store p (record { on = h.on; doubt = h.doubt; fails = a.fails.fails; maps = inl a.same }) refl is)
   by_disk (inr a) is = elim (shape_of v a.state m.message h.lawful a.commits.spelled a.commits.low) [
     | inl none ↦ absurd (a.commits.some none.1)
     | inr needs ↦ (
       None,
       fails b new.store p (record {
         on = h.on;
-        reads = h.reads;
         doubt = h.doubt;
         fails = a.fails.fails;
         maps = inr (record { state = a.state; reads = reads_there v opened m.message a.state live sound a.commits.on; changes = changes_by E a.state m.message; needs = needs; made = a.made });

@@ -18,7 +18,7 @@ use Rattle.tier_types.specs.declared.message.BaseActed.{BaseActed}
 use Rattle.tier_types.specs.declared.message.BaseMsg.{BaseMsg}
 use Rattle.tier_types.specs.declared.message.BaseReply.{BaseReply}
 use Rattle.tier_view.specs.Delivers.{IsFirstThere, acted_there, with_base}
-use Rattle.tier_view.specs.Serves.{Delivers, IsInDoubt, ReadsThere, replied_there}
+use Rattle.tier_view.specs.Serves.{Delivers, IsInDoubt, replied_there}
 use Rattle.tier_view.specs.declared.parts.Pending.{Pending}
 use Rattle.tier_view.specs.declared.parts.Owner.{Owner}
 use Rattle.tier_view.specs.declared.parts.Sent.{Sent}
@@ -32,12 +32,11 @@ base_of opened v = record {
   opened = opened;
 }
 
--- What who hands a message to the base knows: it is on the wire, its name is lawful, which state
--- was read of the name before, and what is in doubt by that where the disk fails.
+-- What who hands a message to the base knows: it is on the wire, its name is lawful, and what is in
+-- doubt where the disk fails; of a Write by the state that was read of the name before.
 pub record Hands (v : GroupView) (m : Sent) (b : NameState) (p : Option Pending) : Type 0 where
   pub on : IsIn m v.traffic.messages
   pub lawful : (k : Name) → name_in m.message ≡ Some k → name_fault k ≡ None
-  pub reads : ReadsThere v m.message b
   pub doubt : IsInDoubt v m b p
 
 -- A Write acted. Its act is its owner's, with an opening that has the state which was read before;
