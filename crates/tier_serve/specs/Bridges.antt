@@ -59,26 +59,28 @@ pub data BecameActed (v : GroupView) (m : Sent) (op : ℕ) (answer : Reply) (s :
       (BaseReply.Wrote v.standing.base_epoch op (BaseActed.Fresh answer)) v.standing.base_epoch s v
       → BecameActed v m op answer s w
 
--- What becomes of the group, by what the base answered: its reply, its epoch and its store are the
--- new ones. A want of room whose numbers say that there is room is no reply. A disk that failed
--- leaves the doubt; any other fault nothing but the store.
+-- What becomes of the group, and what it is told, by what the base answered: its reply, its epoch and
+-- its store are the new ones. A want of room whose numbers say that there is room is no reply. A disk
+-- that failed leaves the doubt; any other fault nothing but the store.
 abbrev pub Became : GroupView → Sent → Option Pending → BaseView → Result BaseReply BaseFault
-    → GroupView → Type 0
-Became v m p new (Ok (BaseReply.Wrote e op (BaseActed.Fresh answer))) w =
-    BecameActed v m op answer new.store w
-Became v m p new (Ok (BaseReply.NoSpace e op used need limit)) w =
-    (limit < used + need)
+    → Option BaseReply → GroupView → Type 0
+Became v m p new (Ok (BaseReply.Wrote e op (BaseActed.Fresh answer))) told w =
+    (told ≡ Some (BaseReply.Wrote e op (BaseActed.Fresh answer)))
+    × BecameActed v m op answer new.store w
+Became v m p new (Ok (BaseReply.NoSpace e op used need limit)) told w =
+    (limit < used + need) × (told ≡ Some (BaseReply.NoSpace e op used need limit))
     × (w ≡ replied_there m.number (BaseReply.NoSpace e op used need limit) new.epoch new.store v)
-    ⊎ (w ≡ with_base new.store None v)
-Became v m p new (Ok reply) w = w ≡ replied_there m.number reply new.epoch new.store v
-Became v m p new (Err (Store store.Disk)) w = w ≡ with_base new.store p v
-Became v m p new (Err fault) w = w ≡ with_base new.store None v
+    ⊎ (told ≡ None) × (w ≡ with_base new.store None v)
+Became v m p new (Ok reply) told w =
+    (told ≡ Some reply) × (w ≡ replied_there m.number reply new.epoch new.store v)
+Became v m p new (Err (Store store.Disk)) told w = (told ≡ None) × (w ≡ with_base new.store p v)
+Became v m p new (Err fault) told w = (told ≡ None) × (w ≡ with_base new.store None v)
 
 -- Whatever a live base answers to a message, what becomes of the group is a step of the message.
 abbrev pub ServingDelivers : Type 0
 ServingDelivers =
     (v w : GroupView) (m : Sent) (opened : Bool) (new : BaseView) (b : NameState)
-    (p : Option Pending) (result : Result BaseReply BaseFault) → IsLive (base_of opened v)
-    → SoundBase (base_of opened v) → Hands v m b p
-    → Serves m.message (base_of opened v) new result → Became v m p new result w
-    → (told : Option BaseReply) × Delivers m told v w
+    (p : Option Pending) (result : Result BaseReply BaseFault) (told : Option BaseReply)
+    → IsLive (base_of opened v) → SoundBase (base_of opened v) → Hands v m b p
+    → Serves m.message (base_of opened v) new result → Became v m p new result told w
+    → Delivers m told v w
