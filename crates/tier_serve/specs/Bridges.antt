@@ -1,5 +1,6 @@
 -- What a base does with a message is what a step of the group may be.
 use Rattle.std.specs.Prelude.{◌≡◌, ◌⊎◌, ◌<◌, ℕ, ◌+◌, Bool, List, Option, Some, None, Result, Ok, Err}
+use Rattle.base_pool.specs.Opens.{ReadsState}
 use Rattle.base_pool.specs.Serves.{Serves}
 use Rattle.base_pool.specs.Views.{BaseView, IsLive, SoundBase}
 use Rattle.base_pool.specs.declared.fault.BaseFault.{BaseFault}
@@ -12,17 +13,18 @@ use Rattle.store_face.specs.Views.{StoreView}
 use Rattle.store_face.specs.declared.fault.StoreFault.TheVariants as store
 use Rattle.tier_chron.specs.Laws.{MayAct}
 use Rattle.tier_chron.specs.declared.entries.First.{First}
+use Rattle.tier_join.specs.Steps.{HasState}
 use Rattle.tier_protocol.specs.Tiers.{IsIn, Name}
 use Rattle.tier_types.specs.Serving.{name_in}
 use Rattle.tier_types.specs.declared.message.BaseActed.{BaseActed}
 use Rattle.tier_types.specs.declared.message.BaseMsg.{BaseMsg}
 use Rattle.tier_types.specs.declared.message.BaseReply.{BaseReply}
 use Rattle.tier_view.specs.Delivers.{IsFirstThere, acted_there, with_base}
-use Rattle.tier_view.specs.Serves.{Delivers, IsInDoubt, replied_there}
+use Rattle.tier_view.specs.Serves.{Delivers, IsInDoubt, LeavesBase, replied_there}
 use Rattle.tier_view.specs.declared.parts.Pending.{Pending}
 use Rattle.tier_view.specs.declared.parts.Owner.{Owner}
 use Rattle.tier_view.specs.declared.parts.Sent.{Sent}
-use Rattle.tier_view.specs.Views.{GroupView, calls_in}
+use Rattle.tier_view.specs.Views.{GroupView, calls_in, joined}
 
 -- the base of a group, as its crate sees it
 abbrev pub base_of : (opened : Bool) → GroupView → BaseView
@@ -84,3 +86,28 @@ ServingDelivers =
     → IsLive (base_of opened v) → SoundBase (base_of opened v) → Hands v m b p
     → Serves m.message (base_of opened v) new result → Became v m p new result told w
     → Delivers m told v w
+
+-- The base behind it is the one of its call: the group has its store, and its epoch.
+abbrev pub BasesAgree : Type 0
+BasesAgree =
+    (v w : GroupView) (m : Sent) (opened : Bool) (new : BaseView) (p : Option Pending)
+    (result : Result BaseReply BaseFault) (told : Option BaseReply)
+    → Serves m.message (base_of opened v) new result → Became v m p new result told w
+    → base_of new.opened w ≡ new
+
+-- ---- the base is read
+
+-- what was read is what the base of the group has then
+abbrev pub HasRead : GroupView → Name → Result NameState BaseFault → Type 0
+HasRead w name (Ok s) = HasState (joined w) name s
+HasRead w name (Err fault) = Unit {0}
+
+-- A live base is read: the group has its store then, and that is a step; what was read is the
+-- base's.
+abbrev pub ReadingLeaves : Type 0
+ReadingLeaves =
+    (v : GroupView) (opened : Bool) (new : BaseView) (name : Name)
+    (result : Result NameState BaseFault) → IsLive (base_of opened v)
+    → SoundBase (base_of opened v) → ReadsState name (base_of opened v) new result
+    → LeavesBase v new.store × HasRead (with_base new.store None v) name result
+    × (base_of new.opened (with_base new.store None v) ≡ new)
