@@ -38,10 +38,6 @@ use Rattle.tier_view.proofs.ServingWorlds.{in_each}
 use Rattle.tier_serve.specs.Bridges.{Became, BecameActed, Hands, ServingDelivers, base_of, is_owned, strays_there}
 use Rattle.tier_serve.proofs.Shapes.{reads_there, shape_of}
 
--- a step of the message, whatever is told
-abbrev IsStep : Sent → (v w : GroupView) → Type 0
-IsStep m v w = (told : Option BaseReply) × Delivers m told v w
-
 -- what is made where a change is needed
 made_of : (v : GroupView) (msg : BaseMsg) (b : NameState) (cs : List Change) (old new : StoreView) → NeedsChange v msg b cs → Makes cs old new → Made cs old new
 made_of v msg b cs old new (puts k t bytes name put spelled named is) h = subst (λ c. Made c old new) (sym is) (subst (λ c. Makes c old new) is h)
@@ -71,7 +67,7 @@ NotFresh reply = (e op : ℕ) (answer : Reply) → reply ≡ BaseReply.Wrote e o
 abbrev TellsPut : (op : ℕ) → (e : ℕ) → Served → Type 0
 TellsPut op e x = (t : NameState) → x.put ≡ Some t → (answer : Reply) × (x.reply ≡ BaseReply.Wrote e op (BaseActed.Fresh answer))
 
-module _ (v w : GroupView) (m : Sent) (opened : Bool) (new : BaseView) (b : NameState) (p : Option Pending) (live : IsLive (base_of opened v)) (sound : SoundBase (base_of opened v)) (h : Hands v m b p) where
+module _ (v w : GroupView) (said : Option BaseReply) (m : Sent) (opened : Bool) (new : BaseView) (b : NameState) (p : Option Pending) (live : IsLive (base_of opened v)) (sound : SoundBase (base_of opened v)) (h : Hands v m b p) where
   abbrev E : ℕ
   E = v.standing.base_epoch
 
@@ -80,21 +76,16 @@ module _ (v w : GroupView) (m : Sent) (opened : Bool) (new : BaseView) (b : Name
     reads = reads_there v opened m.message a.state live sound a.on
 
     -- a reply that is no act's
-    plainly : NotFresh reply → w ≡ replied_there m.number reply new.epoch new.store v → IsStep m v w
+    plainly : NotFresh reply → (said ≡ Some reply) × (w ≡ replied_there m.number reply new.epoch new.store v) → Delivers m said v w
     plainly other is = elim (shape_of v a.state m.message h.lawful a.spelled (subst (λ n. n ≤ number_limit) a.epoch (a.low sound.low))) [
-      | inl none ↦ (
-        Some (served_there v a.state m.message).reply,
-        only_answers a.state new.store (record { on = h.on; reads = reads; none = none.0; stays = subst (λ c. Makes c v.stores.base new.store) none.1 a.makes }) refl
-            (is ∙ ap (λ r. replied_there m.number r new.epoch new.store v) a.told
-            ∙ ap (λ e. replied_there m.number (served_there v a.state m.message).reply e new.store v) (a.epoch ∙ none.0.epoch)),
-      )
-      | inr needs ↦ (
-        Some (served_there v a.state m.message).reply,
-        takes a.state (changes_by E a.state m.message) new.store
-            (record { on = h.on; reads = reads; no_request = no_write m.message refl needs; needs = needs; made = made_of v m.message a.state (changes_by E a.state m.message) v.stores.base new.store needs a.makes }) refl
-            (is ∙ ap (λ r. replied_there m.number r new.epoch new.store v) a.told
-            ∙ ap (λ e. replied_there m.number (served_there v a.state m.message).reply e new.store v) a.epoch),
-      )
+      | inl none ↦ only_answers a.state new.store (record { on = h.on; reads = reads; none = none.0; stays = subst (λ c. Makes c v.stores.base new.store) none.1 a.makes }) (is.0 ∙ ap Some a.told)
+          (is.1 ∙ ap (λ r. replied_there m.number r new.epoch new.store v) a.told
+          ∙ ap (λ e. replied_there m.number (served_there v a.state m.message).reply e new.store v) (a.epoch ∙ none.0.epoch))
+      | inr needs ↦ takes a.state (changes_by E a.state m.message) new.store
+          (record { on = h.on; reads = reads; no_request = no_write m.message refl needs; needs = needs; made = made_of v m.message a.state (changes_by E a.state m.message) v.stores.base new.store needs a.makes })
+          (is.0 ∙ ap Some a.told)
+          (is.1 ∙ ap (λ r. replied_there m.number r new.epoch new.store v) a.told
+          ∙ ap (λ e. replied_there m.number (served_there v a.state m.message).reply e new.store v) a.epoch)
     ]
       where
         wrote : (e op : ℕ) (r : Req) → m.message ≡ BaseMsg.Write e op r → NeedsChange v m.message a.state (changes_by E a.state m.message) → ⊥
@@ -147,40 +138,36 @@ module _ (v w : GroupView) (m : Sent) (opened : Bool) (new : BaseView) (b : Name
         committed = subst (λ c. Makes c v.stores.base new.store) changes a.makes;
       }
 
-      acted_step : BecameActed v m op answer new.store w → IsStep m v w
-      acted_step (is_owned o q first seq same owner may opening is) =
+      acted_step : said ≡ Some reply → BecameActed v m op answer new.store w → Delivers m said v w
+      acted_step is_said (is_owned o q first seq same owner may opening is) =
           let one : BaseMsg.Write E op r ≡ BaseMsg.Write E op q = sym at ∙ same in
-          let req : r ≡ q = cc in (
-            Some (BaseReply.Wrote E op (BaseActed.Fresh answer)),
-            acts o op r a.state acted.0 answer first (state_bytes acted.0) new.store
-                (record {
-                  on = h.on;
-                  message = at;
-                  owner = owner;
-                  has = there;
-                  acts = acted.1;
-                  may = subst (λ x. MayAct (calls_in v.calls.entries) v.log (record { call = o.call; line = o.line; req = x; reply = answer })) (sym req) may;
-                  opening = subst (λ x. IsFirstThere v x.name first) (sym req) opening;
-                  named = h.lawful r.name (ap name_in at);
-                })
-                commits refl
-                (is ∙ ap (λ x. acted_there m.number op first (record { call = o.call; line = o.line; req = x; reply = answer }) seq new.store (Ok tt) v) (sym req)),
-          )
-      acted_step (strays_there o q same owner stray is) =
+          let req : r ≡ q = cc in
+          acts o op r a.state acted.0 answer first (state_bytes acted.0) new.store
+          (record {
+            on = h.on;
+            message = at;
+            owner = owner;
+            has = there;
+            acts = acted.1;
+            may = subst (λ x. MayAct (calls_in v.calls.entries) v.log (record { call = o.call; line = o.line; req = x; reply = answer })) (sym req) may;
+            opening = subst (λ x. IsFirstThere v x.name first) (sym req) opening;
+            named = h.lawful r.name (ap name_in at);
+          })
+          commits (is_said ∙ ap Some told)
+          (is ∙ ap (λ x. acted_there m.number op first (record { call = o.call; line = o.line; req = x; reply = answer }) seq new.store (Ok tt) v) (sym req))
+      acted_step is_said (strays_there o q same owner stray is) =
           let one : BaseMsg.Write E op r ≡ BaseMsg.Write E op q = sym at ∙ same in
-          let req : r ≡ q = cc in (
-            Some (BaseReply.Wrote E op (BaseActed.Fresh answer)),
-            strays o op r a.state acted.0 answer (state_bytes acted.0) new.store
-                (record {
-                  on = h.on;
-                  message = at;
-                  owner = owner;
-                  has = there;
-                  acts = acted.1;
-                  stray = λ may. stray (subst (λ x. MayAct (calls_in v.calls.entries) v.log (record { call = o.call; line = o.line; req = x; reply = answer })) req may);
-                })
-                commits refl is,
-          )
+          let req : r ≡ q = cc in
+          strays o op r a.state acted.0 answer (state_bytes acted.0) new.store
+          (record {
+            on = h.on;
+            message = at;
+            owner = owner;
+            has = there;
+            acts = acted.1;
+            stray = λ may. stray (subst (λ x. MayAct (calls_in v.calls.entries) v.log (record { call = o.call; line = o.line; req = x; reply = answer })) req may);
+          })
+          commits (is_said ∙ ap Some told) is
 
   -- ---- each reply
 
@@ -198,50 +185,45 @@ module _ (v w : GroupView) (m : Sent) (opened : Bool) (new : BaseView) (b : Name
       let second : op ≡ o = cc in
       ap (λ n. BaseReply.Wrote n op (BaseActed.Fresh answer)) first ∙ ap (λ n. BaseReply.Wrote E n (BaseActed.Fresh answer)) second
 
-  by_reply : (reply : BaseReply) → Replies m.message (base_of opened v) new reply → Became v m p new (Ok reply) w → IsStep m v w
+  by_reply : (reply : BaseReply) → Replies m.message (base_of opened v) new reply → Became v m p new (Ok reply) said w → Delivers m said v w
   by_reply (BaseReply.Fenced e) a is = plainly (BaseReply.Fenced e) a (λ i o x no. absurd (cc)) is
   by_reply (BaseReply.Chunk e op chunk) a is = plainly (BaseReply.Chunk e op chunk) a (λ i o x no. absurd (cc)) is
   by_reply (BaseReply.Looked e op looked) a is = plainly (BaseReply.Looked e op looked) a (λ i o x no. absurd (cc)) is
   by_reply (BaseReply.Wrote e op (BaseActed.Fresh answer)) a is =
-      let at = message_in op answer is in
-      acted_step (BaseReply.Wrote e op (BaseActed.Fresh answer)) a op answer at.0 at.1 (told_now e op answer a at.0 op at.1) is
+      let at = message_in op answer is.1 in
+      acted_step (BaseReply.Wrote e op (BaseActed.Fresh answer)) a op answer at.0 at.1 (told_now e op answer a at.0 op at.1) is.0 is.1
   by_reply (BaseReply.Wrote e op (BaseActed.Again answer)) a is = plainly (BaseReply.Wrote e op (BaseActed.Again answer)) a (λ i o x no. absurd (cc)) is
   by_reply (BaseReply.Wrote e op (BaseActed.Stale kept)) a is = plainly (BaseReply.Wrote e op (BaseActed.Stale kept)) a (λ i o x no. absurd (cc)) is
   by_reply (BaseReply.Wrote e op (BaseActed.Worn limit)) a is = plainly (BaseReply.Wrote e op (BaseActed.Worn limit)) a (λ i o x no. absurd (cc)) is
   by_reply (BaseReply.Installed e op seq) a is = plainly (BaseReply.Installed e op seq) a (λ i o x no. absurd (cc)) is
-  by_reply (BaseReply.NoSpace e op used need limit) a (inl is) = (
-    Some (BaseReply.NoSpace (epoch_in m.message) (opid_in m.message) used need limit),
-    lacks_room used need limit new.store (record { on = h.on; over = is.0; stays = a.stays.store }) refl
-        (is.1 ∙ ap (λ n. replied_there m.number (BaseReply.NoSpace n op used need limit) new.epoch new.store v) a.epoch_is
-        ∙ ap (λ n. replied_there m.number (BaseReply.NoSpace (epoch_in m.message) n used need limit) new.epoch new.store v) a.opid_is
-        ∙ ap (λ n. replied_there m.number (BaseReply.NoSpace (epoch_in m.message) (opid_in m.message) used need limit) n new.store v) a.stays.epoch),
-  )
-  by_reply (BaseReply.NoSpace e op used need limit) a (inr is) = (None, leaves new.store (record { moments = a.stays.store.moments; later = inl a.stays.store }) refl is)
+  by_reply (BaseReply.NoSpace e op used need limit) a (inl is) =
+      let named : BaseReply.NoSpace e op used need limit ≡ BaseReply.NoSpace (epoch_in m.message) (opid_in m.message) used need limit =
+      ap (λ n. BaseReply.NoSpace n op used need limit) a.epoch_is ∙ ap (λ n. BaseReply.NoSpace (epoch_in m.message) n used need limit) a.opid_is in
+      lacks_room used need limit new.store (record { on = h.on; over = is.0; stays = a.stays.store }) (is.1 ∙ ap Some named)
+      (is.2 ∙ ap (λ r. replied_there m.number r new.epoch new.store v) named
+      ∙ ap (λ n. replied_there m.number (BaseReply.NoSpace (epoch_in m.message) (opid_in m.message) used need limit) n new.store v) a.stays.epoch)
+  by_reply (BaseReply.NoSpace e op used need limit) a (inr is) = leaves new.store (record { moments = a.stays.store.moments; later = inl a.stays.store }) is.0 is.1
   by_reply (BaseReply.OldEpoch have got) a is = plainly (BaseReply.OldEpoch have got) a (λ i o x no. absurd (cc)) is
   by_reply (BaseReply.NotFenced have got) a is = plainly (BaseReply.NotFenced have got) a (λ i o x no. absurd (cc)) is
 
   -- ---- each fault
 
-  stayed : StaysBase (base_of opened v) new → w ≡ with_base new.store None v → IsStep m v w
-  stayed a is = (None, leaves new.store (record { moments = a.store.moments; later = inl a.store }) refl is)
+  stayed : StaysBase (base_of opened v) new → (said ≡ None) × (w ≡ with_base new.store None v) → Delivers m said v w
+  stayed a is = leaves new.store (record { moments = a.store.moments; later = inl a.store }) is.0 is.1
 
-  by_disk : FailsReading m.message (base_of opened v) new ⊎ FailsCommit m.message (base_of opened v) new → w ≡ with_base new.store p v → IsStep m v w
-  by_disk (inl a) is = (None, fails b new.store p (record { on = h.on; reads = h.reads; doubt = h.doubt; fails = a.fails.fails; maps = inl a.same }) refl is)
+  by_disk : FailsReading m.message (base_of opened v) new ⊎ FailsCommit m.message (base_of opened v) new → (said ≡ None) × (w ≡ with_base new.store p v) → Delivers m said v w
+  by_disk (inl a) is = fails b new.store p (record { on = h.on; doubt = h.doubt; fails = a.fails.fails; maps = inl a.same }) is.0 is.1
   by_disk (inr a) is = elim (shape_of v a.state m.message h.lawful a.commits.spelled a.commits.low) [
     | inl none ↦ absurd (a.commits.some none.1)
-    | inr needs ↦ (
-      None,
-      fails b new.store p (record {
-        on = h.on;
-        reads = h.reads;
-        doubt = h.doubt;
-        fails = a.fails.fails;
-        maps = inr (record { state = a.state; reads = reads_there v opened m.message a.state live sound a.commits.on; changes = changes_by E a.state m.message; needs = needs; made = a.made });
-      }) refl is,
-    )
+    | inr needs ↦ fails b new.store p (record {
+      on = h.on;
+      doubt = h.doubt;
+      fails = a.fails.fails;
+      maps = inr (record { state = a.state; reads = reads_there v opened m.message a.state live sound a.commits.on; changes = changes_by E a.state m.message; needs = needs; made = a.made });
+    }) is.0 is.1
   ]
 
-  by_result : (result : Result BaseReply BaseFault) → Serves m.message (base_of opened v) new result → Became v m p new result w → IsStep m v w
+  by_result : (result : Result BaseReply BaseFault) → Serves m.message (base_of opened v) new result → Became v m p new result said w → Delivers m said v w
   by_result (Ok reply) a is = by_reply reply a is
   by_result (Err (Store store.Disk)) a is = by_disk a is
   by_result (Err (Store (store.BadImage at))) a is = absurd a
@@ -252,4 +234,4 @@ module _ (v w : GroupView) (m : Sent) (opened : Bool) (new : BaseView) (b : Name
   by_result (Err (BadRecord name)) a is = stayed a.stays is
 
 pub serving_delivers : ServingDelivers
-serving_delivers v w m opened new b p result live sound h served became = by_result v w m opened new b p live sound h result served became
+serving_delivers v w m opened new b p result told live sound h served became = by_result v w told m opened new b p live sound h result served became

@@ -1,2 +1,3 @@
 pub mod Shapes
 pub mod Bridging
+pub mod Agreeing

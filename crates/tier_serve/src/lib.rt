@@ -1,13 +1,23 @@
 //! A base that serves a message, and the step of the group.
 //!
 //! What the crate of the base promises of one call (`base_pool`, `Serves`) is enough for what a
-//! message may make of a group (`tier_view`, `Delivers`). The call of this crate does nothing: its
-//! contract is the law.
+//! message may make of a group (`tier_view`, `Delivers`). The calls of this crate do nothing: their
+//! contracts are the laws.
 #![tactic(auto)]
 
-ghost use Rattle.tier_serve.specs.Bridges.{ServingDelivers};
+ghost use Rattle.tier_serve.specs.Bridges.{BasesAgree, ReadingLeaves, ServingDelivers};
 
 /// Whatever a live base answers to a message, what becomes of the group is a step of the message.
 pub fn serving_delivers()
     ensures { ServingDelivers }
+{}
+
+/// The base behind a call is the group's.
+pub fn bases_agree()
+    ensures { BasesAgree }
+{}
+
+/// A live base is read: that is a step, and what was read is the base's.
+pub fn reading_leaves()
+    ensures { ReadingLeaves }
 {}

@@ -1,5 +1,5 @@
 -- The base's disk fails over a message.
-use Rattle.std.proofs.Common.{◌≡◌, ◌≤◌, ◌<◌, ◌⊎◌, inl, inr, ℕ, ◌+◌, false, List, Option, Some, None, Err, refl, sym, ap, subst, ◌∙◌, arith}
+use Rattle.std.proofs.Common.{◌≡◌, ◌≤◌, ◌<◌, ◌⊎◌, inl, inr, ℕ, ◌+◌, true, false, List, Option, Some, None, Err, refl, sym, ap, subst, ◌∙◌, arith}
 use Rattle.std.specs.FinMap as fin
 use Rattle.std.specs.Option.{option_map}
 use Rattle.obj_model.specs.declared.change.Change.{Change}
@@ -32,11 +32,11 @@ use Rattle.tier_join.proofs.Left.{rests_left, rests_since, some_left, tells_on}
 use Rattle.tier_owners.specs.Calls.{is_write_message}
 use Rattle.tier_protocol.proofs.Delivers.{acts_on_plain}
 use Rattle.tier_protocol.specs.Tiers.{BaseMsg, BaseReply, IsIn, Name}
-use Rattle.tier_types.specs.Serving.{Served, epoch_in, name_in, replies, served}
+use Rattle.tier_types.specs.Serving.{Served, epoch_in, in_epoch, name_in, replies, served}
 use Rattle.tier_view.specs.Delivers.{ActsThere, with_base}
 use Rattle.tier_view.specs.Grows.{OneCommit, in_base, no_commit}
 use Rattle.tier_view.specs.Laws.{Keeps}
-use Rattle.tier_view.specs.Serves.{FailingThereKeeps, FailsThere, IsInDoubt, NeedsChange, NeedsNone, ReadsThere, Tears, act_doubt, no_doubt, put_doubt, puts, rise_doubt, rises, served_there, stray_doubt}
+use Rattle.tier_view.specs.Serves.{FailingThereKeeps, FailsThere, IsInDoubt, NeedsChange, NeedsNone, ReadsThere, Tears, act_doubt, is_reading, no_doubt, put_doubt, puts, reading_doubt, rise_doubt, rises, served_there, stray_doubt}
 use Rattle.tier_view.specs.Stores.{Pending, doubt_in}
 use Rattle.tier_view.specs.Traffic.{Owner, Sent}
 use Rattle.tier_view.specs.Views.{GroupView, joined, ledger_in}
@@ -47,7 +47,7 @@ use Rattle.tier_view.proofs.Delivered.{delivering_acts_keeps}
 use Rattle.tier_view.proofs.Delivering as deliver
 use Rattle.tier_view.proofs.Serving.{base_keeps, promises_any}
 use Rattle.tier_view.proofs.ServingOwners.{owners_may_act}
-use Rattle.tier_view.proofs.ServingWorlds.{acts_still, fence_is, name_epoch, needs_based, on_net, put_now, torn_owned}
+use Rattle.tier_view.proofs.ServingWorlds.{acts_still, fence_is, in_each, name_epoch, needs_based, on_net, put_now, torn_owned}
 
 -- ---- what the doubt says
 
@@ -88,10 +88,11 @@ act_next v m o op r b t answer first acts = record {
 
 pub next_doubt : (v : GroupView) (m : Sent) (b : NameState) (p : Option Pending) → IsInDoubt v m b p → IsNextDoubt v p
 next_doubt v m b p (act_doubt o op r t answer first acts is) = next_as v p _ is (act_next v m o op r b t answer first acts)
-next_doubt v m b p (put_doubt e op k t is put same) = next_as v p (Some (Pending.Plain Base k)) same (record { pends = tt; epochs = tt; acts = λ start z i k. tt; next = λ start z i k. tt })
+next_doubt v m b p (put_doubt e op k t is same) = next_as v p (Some (Pending.Plain Base k)) same (record { pends = tt; epochs = tt; acts = λ start z i k. tt; next = λ start z i k. tt })
 next_doubt v m b p (rise_doubt e is later same) = next_as v p (Some (Pending.Epoch Base e)) same (record { pends = tt; epochs = later; acts = λ start z i k. tt; next = λ start z i k. tt })
 next_doubt v m b p (stray_doubt o op r t answer a same) = next_as v p None same (record { pends = tt; epochs = tt; acts = λ start z i k. tt; next = λ start z i k. tt })
-next_doubt v m b p (no_doubt n same) = next_as v p None same (record { pends = tt; epochs = tt; acts = λ start z i k. tt; next = λ start z i k. tt })
+next_doubt v m b p (reading_doubt reads same) = next_as v p None same (record { pends = tt; epochs = tt; acts = λ start z i k. tt; next = λ start z i k. tt })
+next_doubt v m b p (no_doubt reads n same) = next_as v p None same (record { pends = tt; epochs = tt; acts = λ start z i k. tt; next = λ start z i k. tt })
 
 module _ (v : GroupView) (h : IsWhole v) (none : v.stores.pending ≡ None) (s : StoreView) (later : v.stores.base.faults ≤ s.faults) (p : Option Pending) (next : IsNextDoubt v p) where
   abbrev Mem : Memory
@@ -267,6 +268,22 @@ both_or_not v = elim (told_or_not v.cache.moments) [
 one_read : (v : View) (k : Name) (b c : NameState) → Tells v.base → HasState v k b → HasState v k c → b ≡ c
 one_read v k b c told has also = let some = some_left v.base told in state_one (fin.get some.0 (state_key k)) b c (has some.0 some.1) (also some.0 some.1)
 
+-- a message that reads puts nothing
+puts_none : (have e : ℕ) (reply : BaseReply) (t : NameState) → (in_epoch have e (replies have reply)).put ≡ Some t → ⊥
+puts_none have e reply t put =
+    let off : (in_epoch have e (replies have reply)).put ≡ None = in_each (λ x. x.put ≡ None) have e (replies have reply) refl refl (λ same. refl) in
+    let bad : ◌≡◌ {A = Option NameState} None (Some t) = sym off ∙ put in
+    absurd (cc)
+
+reads_only : (v : GroupView) (msg : BaseMsg) (b : NameState) (cs : List Change) → is_reading msg ≡ true → NeedsChange v msg b cs → ⊥
+reads_only v (BaseMsg.Fence e) b cs reads needs = absurd (cc)
+reads_only v (BaseMsg.GetChunk e op k at) b cs reads (puts n t bytes name put spelled named is) = puts_none v.standing.base_epoch e _ t put
+reads_only v (BaseMsg.GetChunk e op k at) b cs reads (rises f bytes fence up spelled is) = absurd (cc)
+reads_only v (BaseMsg.Look e op k w) b cs reads (puts n t bytes name put spelled named is) = puts_none v.standing.base_epoch e _ t put
+reads_only v (BaseMsg.Look e op k w) b cs reads (rises f bytes fence up spelled is) = absurd (cc)
+reads_only v (BaseMsg.Write e op r) b cs reads needs = absurd (cc)
+reads_only v (BaseMsg.Install e op k t) b cs reads needs = absurd (cc)
+
 module _ (v : GroupView) (m : Sent) (b : NameState) (s : StoreView) (p : Option Pending) (h : IsWhole v) (none : v.stores.pending ≡ None) (a : FailsThere v m b s p) (t : Tears v m s) where
   later : v.stores.base.faults ≤ s.faults
   later = a.fails.closes.later
@@ -302,28 +319,29 @@ module _ (v : GroupView) (m : Sent) (b : NameState) (s : StoreView) (p : Option 
   ]
 
   -- nothing was to be committed, by the first reading
-  none_so : NeedsNone v m.message b → NeedsChange v m.message t.state t.changes → Keeps (act_of m.message) None v (with_base s p v)
-  none_so n (rises e bytes fence up spelled cs_is) =
+  none_so : ReadsThere v m.message b → NeedsNone v m.message b → NeedsChange v m.message t.state t.changes → Keeps (act_of m.message) None v (with_base s p v)
+  none_so reads n (rises e bytes fence up spelled cs_is) =
       let gives : (served_there v b m.message).epoch ≡ e = ap (λ x. (served_there v b x).epoch) fence ∙ ap (λ x. x.epoch) (fence_is v.standing.base_epoch e b up) in
       absurd (omega (arith, gives, n.epoch, up))
-  none_so n (puts k w bytes name put spelled named cs_is) = elim (both_or_not (joined v)) [
+  none_so reads n (puts k w bytes name put spelled named cs_is) = elim (both_or_not (joined v)) [
     | inr gap ↦ untold gap
     | inl told ↦
         let now = put_now v.standing.base_epoch t.state w m.message k name put in
-        let one : b ≡ t.state = one_read (joined v) k b t.state told.1 (subst (λ x. HasStateFor (joined v) x b) name (a.reads now)) (subst (λ x. HasStateFor (joined v) x t.state) name (t.reads now)) in
+        let one : b ≡ t.state = one_read (joined v) k b t.state told.1 (subst (λ x. HasStateFor (joined v) x b) name (reads now)) (subst (λ x. HasStateFor (joined v) x t.state) name (t.reads now)) in
         let no : ◌≡◌ {A = Option NameState} None (Some w) = sym n.put ∙ ap (λ x. (served_there v x m.message).put) one ∙ put in
         absurd (cc)
   ]
 
   pub torn_fails : IsInDoubt v m b p → Keeps (act_of m.message) None v (with_base s p v)
   torn_fails (act_doubt o op r u answer first acts is) = acts_so o op r u answer first acts is t.needs
-  torn_fails (put_doubt e op k u is put same) =
+  torn_fails (put_doubt e op k u is same) =
       subst (λ x. Keeps (act_of m.message) None v (with_base s x v)) (sym same)
       (put_fails v m t.state t.changes s h none a.on t.reads t.needs t.made (ap is_write_message is) e op k u is)
   torn_fails (rise_doubt e is up same) =
       subst (λ x. Keeps (act_of m.message) None v (with_base s x v)) (sym same)
       (rise_fails v m t.state t.changes s h none a.on t.reads t.needs t.made (ap is_write_message is) e is up)
-  torn_fails (no_doubt n same) = none_so n t.needs
+  torn_fails (no_doubt reads n same) = none_so reads n t.needs
+  torn_fails (reading_doubt reads same) = absurd (reads_only v m.message t.state t.changes reads t.needs)
   torn_fails (stray_doubt o op r u answer st same) = elim (both_or_not (joined v)) [
     | inr gap ↦ untold gap
     | inl told ↦ absurd (st.stray (owners_may_act v m o op r b u answer h none told st.on st.message st.owner st.has st.acts))

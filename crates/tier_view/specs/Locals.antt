@@ -9,6 +9,7 @@ use Rattle.obj_model.specs.declared.change.Pool.TheVariants.{Cache}
 use Rattle.obj_model.specs.declared.reply.Reply.{Reply}
 use Rattle.obj_model.specs.declared.req.Req.{Req}
 use Rattle.obj_model.specs.declared.state.NameState.{NameState}
+use Rattle.obj_model.specs.declared.sub_op.SubOp.{SubOp}
 use Rattle.obj_ops.specs.Acts.{act}
 use Rattle.obj_ops.specs.Stores.{Store}
 use Rattle.obj_ops.specs.declared.request.Acted.{Acted}
@@ -21,13 +22,16 @@ use Rattle.store_face.specs.Calls.{Committed, Fails, Stays}
 use Rattle.store_face.specs.Tables.{Table}
 use Rattle.store_face.specs.Views.{Sound, StoreView}
 use Rattle.store_face.specs.declared.fault.StoreFault.TheVariants.{Disk, BadImage, NoSpace, Worn, NoMemory}
+use Rattle.tier_chron.specs.Fits.{TellsRead, TellsWrite}
 use Rattle.tier_chron.specs.Logs.{acted_log}
 use Rattle.tier_chron.specs.Places.{act_at, state_at}
 use Rattle.tier_chron.specs.Shapes.{HasNoAct}
 use Rattle.tier_flight.specs.Busy.{busy_at}
 use Rattle.tier_flight.specs.declared.busy.Want.TheVariants as want
+use Rattle.tier_chron.specs.declared.answer.Answer.{Answer}
 use Rattle.tier_chron.specs.declared.entries.Act.{Act}
 use Rattle.tier_chron.specs.declared.entries.First.{First}
+use Rattle.tier_chron.specs.declared.entries.Logged.{Logged}
 use Rattle.tier_join.specs.Group.{BothTell}
 use Rattle.tier_join.specs.Promises.{as_it_is, with_req}
 use Rattle.tier_join.specs.Steps.{HasRec, Outcome, sets}
@@ -265,3 +269,18 @@ RecordsAnswerPlainly =
     (start : Store) (v : GroupView) (k : Name) (r : TierRec) → BothTell (joined v)
     → Began start v → v.stores.pending ≡ None → HasRec (joined v) k (Some r)
     → state_at start v.log.acts (length v.log.acts) k ≡ r.state
+
+-- so what an answer tells of the record's state, at the present place, is the truth
+pub record TellsHere (start : Store) (v : GroupView) (k : Name) (r : TierRec)
+    (place : ℕ) : Type 0 where
+  pub writes : (q : Req) (l : Logged)
+      → TellsWrite r.state v.log.acts q l l.answer
+      → TellsWrite (state_at start v.log.acts place k) v.log.acts q l l.answer
+  pub reads : (vector : List SubOp) (x : Answer) → TellsRead r.state vector x
+      → TellsRead (state_at start v.log.acts place k) vector x
+
+abbrev pub RecordsTellTruth : Type 0
+RecordsTellTruth =
+    (start : Store) (v : GroupView) (k : Name) (r : TierRec) (place : ℕ) → BothTell (joined v)
+    → Began start v → v.stores.pending ≡ None → HasRec (joined v) k (Some r)
+    → place ≡ length v.log.acts → TellsHere start v k r place

@@ -1,5 +1,5 @@
 -- A message reaches the base: what each outcome makes of the group.
-use Rattle.std.specs.Prelude.{◌≡◌, ◌≢◌, ◌⊎◌, ◌<◌, ℕ, ◌+◌, false, List, Option, Some, None, Ok}
+use Rattle.std.specs.Prelude.{◌≡◌, ◌≢◌, ◌⊎◌, ◌<◌, ℕ, ◌+◌, Bool, true, false, List, Option, Some, None, Ok}
 use Rattle.obj_model.specs.Names.{name_fault}
 use Rattle.obj_model.specs.declared.change.Change.{Change}
 use Rattle.obj_model.specs.declared.change.Pool.TheVariants.{Base}
@@ -113,8 +113,17 @@ pub record StraysThere (v : GroupView) (m : Sent) (o : Owner) (op : ℕ) (r : Re
   pub stray : MayAct (calls_in v.calls.entries) v.log
       (record { call = o.call; line = o.line; req = r; reply = answer }) → ⊥
 
--- What is in doubt where the disk fails over a message, by the state that was read of its name
--- before: the owner's act, what is installed, the epoch; nothing where the message needs no commit.
+-- a message that reads
+abbrev pub is_reading : BaseMsg → Bool
+is_reading (BaseMsg.Fence e) = false
+is_reading (BaseMsg.GetChunk e op k at) = true
+is_reading (BaseMsg.Look e op k w) = true
+is_reading (BaseMsg.Write e op r) = false
+is_reading (BaseMsg.Install e op k t) = false
+
+-- What is in doubt where the disk fails over a message. Of a Write it is the owner's act, by the
+-- state that was read of its name before; of an installation its name, and of a Fence of a greater
+-- epoch that. Nothing is where the message reads, or needs no commit by what was read.
 pub data IsInDoubt (v : GroupView) (m : Sent) (b : NameState) (p : Option Pending) : Type 0 where
   act_doubt : (o : Owner) (op : ℕ) (r : Req) (t : NameState) (answer : Reply) (first : Option First)
       → ActsThere v m o op r b t answer first
@@ -122,11 +131,11 @@ pub data IsInDoubt (v : GroupView) (m : Sent) (b : NameState) (p : Option Pendin
       (record { call = o.call; line = o.line; req = r; reply = answer }) t.seq)
       → IsInDoubt v m b p
   put_doubt : (e op : ℕ) (k : Name) (t : NameState) → m.message ≡ BaseMsg.Install e op k t
-      → (served_there v b m.message).put ≡ Some t → p ≡ Some (Pending.Plain Base k)
-      → IsInDoubt v m b p
+      → p ≡ Some (Pending.Plain Base k) → IsInDoubt v m b p
   rise_doubt : (e : ℕ) → m.message ≡ BaseMsg.Fence e → v.standing.base_epoch < e
       → p ≡ Some (Pending.Epoch Base e) → IsInDoubt v m b p
-  no_doubt : NeedsNone v m.message b → p ≡ None → IsInDoubt v m b p
+  no_doubt : ReadsThere v m.message b → NeedsNone v m.message b → p ≡ None → IsInDoubt v m b p
+  reading_doubt : is_reading m.message ≡ true → p ≡ None → IsInDoubt v m b p
   stray_doubt : (o : Owner) (op : ℕ) (r : Req) (t : NameState) (answer : Reply)
       → StraysThere v m o op r b t answer → p ≡ None → IsInDoubt v m b p
 
@@ -144,7 +153,6 @@ pub record Tears (v : GroupView) (m : Sent) (s : StoreView) : Type 0 where
 pub record FailsThere (v : GroupView) (m : Sent) (b : NameState) (s : StoreView)
     (p : Option Pending) : Type 0 where
   pub on : IsIn m v.traffic.messages
-  pub reads : ReadsThere v m.message b
   pub doubt : IsInDoubt v m b p
   pub fails : Fails v.stores.base s
   pub maps : (s.moments ≡ v.stores.base.moments) ⊎ Tears v m s

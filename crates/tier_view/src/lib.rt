@@ -26,7 +26,7 @@ pub use lies::{
 pub use locals::{
     acting_here_keeps, cleaning_here_keeps, evicting_here_keeps, free_lets_write,
     last_act_is_placed, leaving_cache_keeps, promoting_acts_here_keeps, promoting_here_keeps,
-    records_answer_plainly, records_are_not_bare, sound_is_few, sums_follow,
+    records_answer_plainly, records_are_not_bare, records_tell_truth, sound_is_few, sums_follow,
 };
 pub use parts::{
     Awaited, Begun, Entry, FirstBusy, Flown, KeptFence, Noted, Owner, Pending, Replied, Sent,

@@ -1,5 +1,5 @@
 //! Commits of the cache.
-ghost use Rattle.tier_view.specs.Locals.{ActingHereKeeps, CleaningHereKeeps, EvictingHereKeeps, FreeLetsWrite, LastActIsPlaced, LeavingCacheKeeps, PromotingActsHereKeeps, PromotingHereKeeps, RecordsAnswerPlainly, RecordsAreNotBare, SoundIsFew, SumsFollow};
+ghost use Rattle.tier_view.specs.Locals.{ActingHereKeeps, CleaningHereKeeps, EvictingHereKeeps, FreeLetsWrite, LastActIsPlaced, LeavingCacheKeeps, PromotingActsHereKeeps, PromotingHereKeeps, RecordsAnswerPlainly, RecordsAreNotBare, RecordsTellTruth, SoundIsFew, SumsFollow};
 
 /// Where one record gives place to another, the sums over all follow.
 pub fn sums_follow()
@@ -60,4 +60,9 @@ pub fn last_act_is_placed()
 /// What a record answers, the plain store answers.
 pub fn records_answer_plainly()
     ensures { RecordsAnswerPlainly }
+{}
+
+/// What an answer tells of a record's state is the truth at the present place.
+pub fn records_tell_truth()
+    ensures { RecordsTellTruth }
 {}
