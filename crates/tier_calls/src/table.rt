@@ -19,8 +19,8 @@ use tier_view::{Entry, Flown};
 /// The calls of a group, in their order, and the work that they began. Both tables only grow.
 ///
 /// Contracts see it as these tables with the last call's number. Beside them they see for how many
-/// new entries of work there is memory (`spare`), and how many entries of work are of earlier epochs
-/// (`earlier`).
+/// new entries of work there is memory (`spare`), and how many entries of work are of earlier
+/// epochs (`earlier`).
 #[derive(Drop)]
 pub struct CallTable {
     entries: Vec<Entry>,
@@ -44,7 +44,7 @@ impl Model for CallTable {
       earlier = t.first;
     } };
 
-    ghost invariant = { λ t. AreInTurn 1 t.entries.items × AreByEpoch t.first t.flown.items
+    ghost invariant = { λ t. AreInTurn (λ e. e.number) 1 t.entries.items × AreByEpoch t.first t.flown.items
         × (vec_len t.flown + t.room ≤ vec_capacity t.flown) };
 }
 
@@ -77,8 +77,10 @@ impl CallTable {
     pub fn get(&self, number: u64) -> Option<&Entry>
         ensures { option_copied result ≡ entry_of self.now.calls.entries number }
     {
-        let place = place_of(number)?;
-        self.entries.as_slice().get(place)
+        match place_of(number, self.entries.len()) {
+            Some(place) => Some(&self.entries[place]),
+            None => None,
+        }
     }
 
     /// Enters a call under the next number, which it answers. Without memory nothing changes.
@@ -137,7 +139,9 @@ impl CallTable {
 
     /// Takes memory for so many new entries of work. Without it nothing changes.
     pub fn reserve_work(&mut self, entries: u64) -> Result<(), NoMemory>
-        ensures ok { OnOk result (self.new ≡ record self.old { spare = max self.old.spare entries }) }
+        ensures ok { OnOk result (self.new ≡ record self.old {
+          spare = max self.old.spare entries;
+        }) }
         ensures err { OnErr result (self.new ≡ self.old) }
     {
         if self.room < entries {

@@ -1,5 +1,5 @@
 //! Work in its table.
-ghost use Rattle.std.specs.Prelude.{◌≡◌, map, vec_capacity};
+ghost use Rattle.std.specs.Prelude.{◌≡◌, map, vec_capacity, vec_len};
 ghost use Rattle.tier_view.specs.Changes.{gone_in};
 ghost use Rattle.tier_view.specs.Stops.{gone_at, gone_by};
 ghost use Rattle.tier_calls.specs.Turns.{AreByEpoch};
@@ -20,22 +20,12 @@ fn go(flown: &mut Flown, now: u64)
 pub(crate) fn go_at(flown: &mut Vec<Flown>, earlier: u64, opid: u64, now: u64)
     requires { AreByEpoch earlier flown.old.items }
     ensures gone { flown.new.items ≡ gone_in now opid flown.old.items }
+    ensures count { vec_len flown.new ≡ vec_len flown.old }
     ensures room { vec_capacity flown.new ≡ vec_capacity flown.old }
 {
-    if let Some(place) = place_of(opid) {
-        let first = earlier as usize;
-        if place < flown.len() - first {
-            go(&mut flown[first + place], now);
-        }
-    }
-}
-
-// All of this work goes.
-fn go_each(flown: &mut [Flown], now: u64)
-    ensures { flown.new ≡ map (gone_at now) flown.old }
-{
-    for entry in flown {
-        go(entry, now);
+    let first = earlier as usize;
+    if let Some(place) = place_of(opid, flown.len() - first) {
+        go(&mut flown[first + place], now);
     }
 }
 
@@ -43,8 +33,10 @@ fn go_each(flown: &mut [Flown], now: u64)
 pub(crate) fn go_all(flown: &mut Vec<Flown>, earlier: u64, now: u64)
     requires { AreByEpoch earlier flown.old.items }
     ensures gone { flown.new.items ≡ map (gone_at now) flown.old.items }
+    ensures count { vec_len flown.new ≡ vec_len flown.old }
     ensures room { vec_capacity flown.new ≡ vec_capacity flown.old }
 {
-    let (_, present) = flown.as_mut_slice().split_at_mut(earlier as usize);
-    go_each(present, now);
+    for place in earlier as usize..flown.len() {
+        go(&mut flown[place], now);
+    }
 }
