@@ -1,8 +1,11 @@
 -- Messages and replies under their numbers.
 use Rattle.std.specs.Prelude.{ℕ, ◌==◌, ◌+◌, List, ◌∷◌, Option}
 use Rattle.std.specs.List.{find}
-use Rattle.tier_protocol.specs.Tiers.{BaseMsg}
-use Rattle.tier_view.specs.Traffic.{Owner, Replied, Sent, Traffic}
+use Rattle.tier_types.specs.declared.message.BaseMsg.{BaseMsg}
+use Rattle.tier_view.specs.Traffic.{Traffic}
+use Rattle.tier_view.specs.declared.parts.Owner.{Owner}
+use Rattle.tier_view.specs.declared.parts.Replied.{Replied}
+use Rattle.tier_view.specs.declared.parts.Sent.{Sent}
 
 -- the message of a number
 abbrev pub sent_of : List Sent → ℕ → Option Sent

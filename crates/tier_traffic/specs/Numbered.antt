@@ -1,6 +1,7 @@
 -- Values under numbers that only rise, the newest first.
-use Rattle.std.specs.Prelude.{◌≡◌, ◌<◌, ℕ, Bool, true, false, List, [], ◌∷◌, Option, Some, None, IsSome, refl}
+use Rattle.std.specs.Prelude.{◌≡◌, ◌<◌, ◌+◌, ◌^◌, ℕ, Bool, true, false, List, [], ◌∷◌, Option, Some, None, IsSome, refl}
 use Rattle.std.specs.Coded.{Coded, code_by, coded×, coded_list, coded_ℕ, coded_bool}
+use Rattle.std.specs.Ordering.{is_eq, nat_cmp}
 use Rattle.std.specs.declared.cmp.Reverse.{Reverse}
 
 -- the values with their numbers, the next number, and whether there is memory for a value under it
@@ -21,10 +22,19 @@ coded_numbered {V} code =
 abbrev pub Shelf : Type 0 → Type 0
 Shelf V = List (Reverse ℕ × Option V)
 
--- the values with their numbers: a place without a value is not seen
+-- whether a place has this number
+abbrev pub is_under : ℕ → Reverse ℕ → Bool
+is_under n k = is_eq (nat_cmp k.0 n)
+
+-- a place without a value is not seen
+abbrev pub with_value : {V : Type 0} → ℕ → Option V → List (ℕ × V) → List (ℕ × V)
+with_value number None held = held
+with_value number (Some v) held = (number, v) ∷ held
+
+-- the values with their numbers
 abbrev pub held_in : {V : Type 0} → Shelf V → List (ℕ × V)
 held_in [] = []
-held_in (e ∷ es) = elim e.1 [ None ↦ held_in es | Some v ↦ (e.0.0, v) ∷ held_in es ]
+held_in (e ∷ es) = with_value e.0.0 e.1 (held_in es)
 
 -- each place has a value, and their numbers fall from below this one
 abbrev pub IsFull : {V : Type 0} → (next : ℕ) → Shelf V → Type 0
@@ -36,3 +46,8 @@ abbrev pub IsShelf : {V : Type 0} → (ready : Bool) → (next : ℕ) → Shelf 
 IsShelf false next es = IsFull next es
 IsShelf true next [] = ⊥
 IsShelf true next (e ∷ es) = (e.0.0 ≡ next) × (e.1 ≡ None) × IsFull next es
+
+-- where there is memory for the next value, there is a number behind its own
+abbrev pub AreLeft : (ready : Bool) → (next : ℕ) → Type 0
+AreLeft false next = Unit {0}
+AreLeft true next = next + 1 < 2 ^ 64

@@ -6,7 +6,9 @@ use Rattle.std.specs.Ordering.{nat_cmp}
 use Rattle.obj_model.specs.Names.{name_cmp}
 use Rattle.tier_traffic.specs.Places.{placed}
 use Rattle.tier_traffic.specs.declared.begun.BegunAt.{BegunAt}
-use Rattle.tier_view.specs.Traffic.{Awaited, Begun, Noted}
+use Rattle.tier_view.specs.declared.parts.Awaited.{Awaited}
+use Rattle.tier_view.specs.declared.parts.Begun.{Begun}
+use Rattle.tier_view.specs.declared.parts.Noted.{Noted}
 
 -- ---- what calls await, in the order of the calls
 
@@ -35,7 +37,7 @@ noting n noted = placed (λ a b. nat_cmp a.call b.call) n noted
 abbrev pub begun_of : List Begun → List ℕ → Option BegunAt
 begun_of begun name =
     option_map (λ b. record { epoch = b.epoch; message = b.message })
-    (find (λ b. bytes_eq b.name name) begun)
+    (find (λ b. bytes_eq name b.name) begun)
 
 -- the name's flush is this one, and no other
 abbrev pub beginning : Begun → List Begun → List Begun
@@ -43,4 +45,4 @@ beginning b begun = placed (λ a c. name_cmp a.name c.name) b begun
 
 -- no flush of the name was begun
 abbrev pub without_begun : List ℕ → List Begun → List Begun
-without_begun name begun = filter (λ b. not (bytes_eq b.name name)) begun
+without_begun name begun = filter (λ b. not (bytes_eq name b.name)) begun

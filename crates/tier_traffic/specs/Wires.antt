@@ -1,7 +1,7 @@
 -- What is between the pools, as its callers see it.
 use Rattle.std.specs.Coded.{Coded, code_by, coded×, coded_bool}
 use Rattle.std.specs.Prelude.{Bool, refl}
-use Rattle.tier_protocol.specs.Tiers.{Flights}
+use Rattle.tier_flight.specs.Ends.{FlightMap}
 use Rattle.tier_view.specs.Codes.{coded_traffic}
 use Rattle.tier_view.specs.Traffic.{Traffic}
 
@@ -23,5 +23,5 @@ abbrev pub carrying : Traffic → WiresView → WiresView
 carrying t w = record w { traffic = t }
 
 -- the same with this work
-abbrev pub with_flights : Flights → WiresView → WiresView
+abbrev pub with_flights : FlightMap → WiresView → WiresView
 with_flights flights w = carrying (record w.traffic { flights = flights }) w

@@ -16,8 +16,10 @@ pub(crate) struct Awaits {
 
 impl Model for Awaits {
     ghost use Rattle.std.specs.Coded.{coded_list};
+    ghost use Rattle.std.specs.BTreeMap.{IsOrdered};
+    ghost use Rattle.std.specs.Ordering.{nat_cmp};
     ghost use Rattle.std.specs.Prelude.{List, map};
-    ghost use Rattle.tier_view.specs.Traffic.{Awaited};
+    ghost use Rattle.tier_view.specs.declared.parts.Awaited.{Awaited};
     ghost use Rattle.tier_view.specs.contracts.parts.Awaited as awaited;
 
     ghost Value = { List Awaited };
@@ -25,6 +27,8 @@ impl Model for Awaits {
     ghost coded = { coded_list awaited.the_row.coded };
 
     ghost view = { λ a. map (λ e. record { call = e.0; message = e.1 }) a.inner.entries };
+
+    ghost invariant = { λ a. IsOrdered nat_cmp a.inner };
 }
 
 impl Awaits {

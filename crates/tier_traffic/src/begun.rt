@@ -23,8 +23,10 @@ pub(crate) struct BegunFlushes {
 
 impl Model for BegunFlushes {
     ghost use Rattle.std.specs.Coded.{coded_list};
+    ghost use Rattle.std.specs.BTreeMap.{IsOrdered};
     ghost use Rattle.std.specs.Prelude.{List, map};
-    ghost use Rattle.tier_view.specs.Traffic.{Begun};
+    ghost use Rattle.obj_model.specs.Names.{name_cmp};
+    ghost use Rattle.tier_view.specs.declared.parts.Begun.{Begun};
     ghost use Rattle.tier_view.specs.contracts.parts.Begun as begun;
 
     ghost Value = { List Begun };
@@ -33,6 +35,8 @@ impl Model for BegunFlushes {
 
     ghost view = { λ b. map
         (λ e. record { name = e.0; epoch = e.1.epoch; message = e.1.message }) b.inner.entries };
+
+    ghost invariant = { λ b. IsOrdered name_cmp b.inner };
 }
 
 impl BegunFlushes {

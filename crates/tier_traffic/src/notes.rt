@@ -1,4 +1,7 @@
 //! How far drains have come.
+ghost use Rattle.std.specs.BTreeMap.{IsOrdered, insert_entry, is_at};
+ghost use Rattle.std.specs.Map.{remove_entry};
+ghost use Rattle.std.specs.Ordering.{nat_cmp};
 ghost use Rattle.std.specs.Prelude.{◌≡◌, [], OnErr, OnOk};
 ghost use Rattle.std.specs.Option.{option_copied};
 ghost use Rattle.tier_view.specs.Changes.{unnoted};
@@ -18,10 +21,12 @@ pub(crate) struct Notes {
 
 impl Model for Notes {
     ghost use Rattle.std.specs.Coded.{coded_list};
+    ghost use Rattle.std.specs.BTreeMap.{IsOrdered};
     ghost use Rattle.std.specs.List.{AllByRecursion};
     ghost use Rattle.std.specs.Map.{values_of};
+    ghost use Rattle.std.specs.Ordering.{nat_cmp};
     ghost use Rattle.std.specs.Prelude.{◌≡◌, List};
-    ghost use Rattle.tier_view.specs.Traffic.{Noted};
+    ghost use Rattle.tier_view.specs.declared.parts.Noted.{Noted};
     ghost use Rattle.tier_view.specs.contracts.parts.Noted as noted;
 
     ghost Value = { List Noted };
@@ -30,7 +35,8 @@ impl Model for Notes {
 
     ghost view = { λ n. values_of n.inner.entries };
 
-    ghost invariant = { λ n. AllByRecursion (λ e. e.1.call ≡ e.0) n.inner.entries };
+    ghost invariant = { λ n. IsOrdered nat_cmp n.inner
+        × AllByRecursion (λ e. e.1.call ≡ e.0) n.inner.entries };
 }
 
 impl Notes {
@@ -55,14 +61,32 @@ impl Notes {
         ensures ok { OnOk result (self.new ≡ noting noted self.old) }
         ensures err { OnErr result (self.new ≡ self.old) }
     {
-        self.inner.insert(noted.call, noted)?;
-        Ok(())
+        put(&mut self.inner, noted)
     }
 
     /// Forgets what a call noted.
     pub(crate) fn remove(&mut self, call: u64)
         ensures { self.new ≡ unnoted call self.old }
     {
-        self.inner.remove(&call);
+        take_out(&mut self.inner, call);
     }
+}
+
+// Puts what a call noted under its number. Without memory nothing changes.
+fn put(inner: &mut BTreeMap<u64, Noted>, noted: Noted) -> Result<(), NoMemory>
+    ensures ok { OnOk result
+        (inner.new.entries ≡ insert_entry nat_cmp inner.old.entries noted.call noted) }
+    ensures err { OnErr result (inner.new.entries ≡ inner.old.entries) }
+    ensures ordered { IsOrdered nat_cmp inner.new }
+{
+    inner.insert(noted.call, noted)?;
+    Ok(())
+}
+
+// Takes out what a call noted.
+fn take_out(inner: &mut BTreeMap<u64, Noted>, call: u64)
+    ensures taken { inner.new.entries ≡ remove_entry (is_at (nat_cmp call)) inner.old.entries }
+    ensures ordered { IsOrdered nat_cmp inner.new }
+{
+    inner.remove(&call);
 }

@@ -1,7 +1,8 @@
 //! Values under numbers that only rise.
 ghost use Rattle.std.specs.Prelude.{◌≡◌, ◌==◌, ◌+◌, true, false, [], ◌∷◌, filter, not, OnErr, OnOk};
-ghost use Rattle.std.specs.Map.{lookup};
+ghost use Rattle.std.specs.Map.{lookup, remove_entry};
 ghost use Rattle.std.specs.Option.{option_copied};
+ghost use Rattle.tier_traffic.specs.Numbered.{is_under};
 
 use obj_model::NoMemory;
 use std::alloc::Global;
@@ -19,8 +20,7 @@ pub(crate) struct Numbered<V> {
 }
 
 impl<V> Model for Numbered<V> {
-    ghost use Rattle.std.specs.Prelude.{◌<◌, ◌^◌};
-    ghost use Rattle.tier_traffic.specs.Numbered.{NumberedView, IsShelf, coded_numbered, held_in};
+    ghost use Rattle.tier_traffic.specs.Numbered.{AreLeft, IsShelf, NumberedView, coded_numbered, held_in};
 
     ghost Value = { NumberedView V };
 
@@ -32,7 +32,7 @@ impl<V> Model for Numbered<V> {
       ready = n.ready;
     } };
 
-    ghost invariant = { λ n. IsShelf n.ready n.next n.inner.entries };
+    ghost invariant = { λ n. IsShelf n.ready n.next n.inner.entries × AreLeft n.ready n.next };
 }
 
 impl<V> Numbered<V> {
@@ -59,14 +59,15 @@ impl<V> Numbered<V> {
         ensures { option_copied result ≡ lookup (λ n. n == number) self.now.held }
     {
         match self.inner.get(&Reverse(number)) {
-            Some(Some(value)) => Some(value),
-            _ => None,
+            Some(place) => place.as_ref(),
+            None => None,
         }
     }
 }
 
 impl<V: Drop> Numbered<V> {
-    /// Takes memory for the next value. Without it, or when all numbers were given, nothing changes.
+    /// Takes memory for the next value. Without it, or when all numbers were given, nothing
+    /// changes.
     pub(crate) fn reserve(&mut self) -> Result<(), NoMemory>
         ensures ok { OnOk result (self.new ≡ record self.old { ready = true }) }
         ensures err { OnErr result (self.new ≡ self.old) }
@@ -74,7 +75,7 @@ impl<V: Drop> Numbered<V> {
         if self.ready {
             return Ok(());
         }
-        if self.next == u64::MAX {
+        if self.next >= u64::MAX {
             return Err(NoMemory);
         }
         self.inner.insert(Reverse(self.next), None)?;
@@ -92,7 +93,9 @@ impl<V: Drop> Numbered<V> {
         } }
     {
         // A place that is there takes no memory.
-        let _ = self.inner.insert(Reverse(self.next), Some(value));
+        let Ok(_) = self.inner.insert(Reverse(self.next), Some(value)) else {
+            unreachable!();
+        };
         self.next += 1;
         self.ready = false;
     }
@@ -104,7 +107,14 @@ impl<V: Drop> Numbered<V> {
         } }
     {
         if number < self.next {
-            self.inner.remove(&Reverse(number));
+            take_place(&mut self.inner, number);
         }
     }
+}
+
+// Takes the place of a number out.
+fn take_place<V: Drop>(places: &mut BTreeMap<Reverse<u64>, Option<V>>, number: u64)
+    ensures { places.new.entries ≡ remove_entry (is_under number) places.old.entries }
+{
+    places.remove(&Reverse(number));
 }

@@ -246,7 +246,8 @@ impl Wires {
         self.replies.remove(number);
     }
 
-    /// Lets a call await the reply to this message, and to no other. Without memory nothing changes.
+    /// Lets a call await the reply to this message, and to no other. Without memory nothing
+    /// changes.
     pub fn await_message(&mut self, call: u64, number: u64) -> Result<(), NoMemory>
         ensures ok { OnOk result (self.new ≡ carrying (record self.old.traffic {
           awaited = awaiting call number self.old.traffic.awaited;
@@ -299,8 +300,8 @@ impl Wires {
         self.noted.remove(call);
     }
 
-    /// Enters a flush that was begun alone, in place of one of the same name. Without memory nothing
-    /// changes.
+    /// Enters a flush that was begun alone, in place of one of the same name. Without memory
+    /// nothing changes.
     pub fn begin_flush(&mut self, begun: Begun) -> Result<(), NoMemory>
         ensures ok { OnOk result (self.new ≡ carrying (record self.old.traffic {
           begun = beginning begun self.old.traffic.begun;
