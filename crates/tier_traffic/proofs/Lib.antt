@@ -1,0 +1,6 @@
+pub mod Entries
+pub mod Places
+pub mod Shelves
+pub mod Values
+pub mod Waiting
+pub mod Wired

@@ -1,0 +1,5 @@
+pub mod Messages
+pub mod Numbered
+pub mod Places
+pub mod Waits
+pub mod Wires
