@@ -17,6 +17,7 @@ pub mod ServingOwners
 pub mod ServingFails
 pub mod ServingStrays
 pub mod ServingAll
+pub mod ServingRest
 pub mod LocalPlaces
 pub mod LocalSums
 pub mod LocalFew
