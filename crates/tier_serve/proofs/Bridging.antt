@@ -22,7 +22,7 @@ use Rattle.tier_chron.specs.Laws.{MayAct}
 use Rattle.tier_chron.specs.declared.entries.First.{First}
 use Rattle.tier_join.specs.Steps.{HasState, HasStateFor, sets}
 use Rattle.tier_owners.specs.Calls.{is_write_message}
-use Rattle.tier_types.specs.Serving.{Served, epoch_in, in_epoch, name_in, opid_in, put_by, served, told_of}
+use Rattle.tier_types.specs.Serving.{Served, epoch_in, name_in, opid_in, put_by, served, told_of}
 use Rattle.tier_types.specs.declared.message.BaseActed.{BaseActed}
 use Rattle.tier_types.specs.declared.message.BaseMsg.{BaseMsg}
 use Rattle.tier_types.specs.declared.message.BaseReply.{BaseReply}
@@ -32,8 +32,8 @@ use Rattle.tier_view.specs.declared.parts.Pending.{Pending}
 use Rattle.tier_view.specs.declared.parts.Owner.{Owner}
 use Rattle.tier_view.specs.declared.parts.Sent.{Sent}
 use Rattle.tier_view.specs.Views.{GroupView, calls_in, joined}
-use Rattle.tier_protocol.proofs.Delivers.{in_epoch_by}
 use Rattle.base_pool.proofs.Readings.{own_changes}
+use Rattle.tier_view.proofs.Delivering.{own_epoch}
 use Rattle.tier_view.proofs.ServingWorlds.{in_each}
 use Rattle.tier_serve.specs.Bridges.{Became, BecameActed, Hands, ServingDelivers, base_of, is_owned, strays_there}
 use Rattle.tier_serve.proofs.Shapes.{reads_there, shape_of}
@@ -42,9 +42,6 @@ use Rattle.tier_serve.proofs.Shapes.{reads_there, shape_of}
 made_of : (v : GroupView) (msg : BaseMsg) (b : NameState) (cs : List Change) (old new : StoreView) → NeedsChange v msg b cs → Makes cs old new → Made cs old new
 made_of v msg b cs old new (puts k t bytes name put spelled named is) h = subst (λ c. Made c old new) (sym is) (subst (λ c. Makes c old new) is h)
 made_of v msg b cs old new (rises e bytes same up spelled is) h = subst (λ c. Made c old new) (sym is) (subst (λ c. Makes c old new) is h)
-
-own_epoch : (have : ℕ) (done : Served) → in_epoch have have done ≡ done
-own_epoch have done = in_epoch_by (λ o. o ≡ done) have have done (omega arith) (λ less. absurd (omega (arith, less))) (λ same. refl)
 
 -- the request acted where it is told so
 acts_by : (a : Acted) (answer : Reply) → told_of a ≡ BaseActed.Fresh answer → (t : NameState) × (a ≡ Fresh t answer)

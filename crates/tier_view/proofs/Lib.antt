@@ -20,8 +20,8 @@ pub mod ServingAll
 pub mod ServingRest
 pub mod LocalPlaces
 pub mod LocalSums
-pub mod LocalFew
 pub mod LocalMaps
+pub mod LocalFew
 pub mod LocalSteps
 pub mod LocalActSteps
 pub mod LocalActs

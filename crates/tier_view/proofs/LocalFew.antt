@@ -26,6 +26,7 @@ use Rattle.tier_protocol.proofs.Cells.{get_there}
 use Rattle.tier_rec.specs.Records.{body_bytes, totals_over, weight_of}
 use Rattle.tier_view.specs.Locals.{AreFew, SoundIsFew}
 use Rattle.tier_view.specs.Whole.{records_in}
+use Rattle.tier_view.proofs.LocalMaps.{key_apart}
 use Rattle.tier_view.proofs.LocalPlaces.{AreAlone, Place, alone, none_found, place, put_anew, same_at}
 
 -- ---- a body is no longer than its record's spelling
@@ -91,9 +92,6 @@ taken_out x key bytes has = omega (arith, whole, apart, rest)
 
     rest : weight (fin.remove x key) ≡ sum_by entry_weight p.before + sum_by entry_weight p.behind
     rest = ap (sum_by entry_weight) p.is ∙ sum_by-append entry_weight p.before p.behind
-
-key_apart : (q name : Name) → q ≢ name → record_key q ≢ record_key name
-key_apart q name ne e = let f : q ≡ name = cc in ne f
 
 moved_rows : (x : Table) (k : Name) (es : List Row) → AllByRecursion (λ d. d.0 ≢ k) es → AllByRecursion (HasRow x) es → AllByRecursion (HasRow (fin.remove x (record_key k))) es
 moved_rows x k [] apart h = tt

@@ -19,11 +19,8 @@ use Rattle.tier_view.specs.Views.{GroupView, joined}
 use Rattle.tier_view.specs.Whole.{AreSums, IsWhole}
 use Rattle.tier_view.proofs.Beginning.{surely_owned}
 use Rattle.tier_view.proofs.LocalSteps.{cache_grows, cache_keeps, cache_owes, sums_failed, sums_rest}
+use Rattle.tier_view.proofs.Serving.{rises_on}
 use Rattle.tier_view.proofs.Resting.{extends_same, remains_itself}
-
-rises_on : (old new : StoreView) → StoreStays old new ⊎ Fails old new → old.faults ≤ new.faults
-rises_on old new (inl stays) = stays.later
-rises_on old new (inr fails) = fails.closes.later
 
 sums_on : (v : GroupView) (h : IsWhole v) (none : v.stores.pending ≡ None) (s : StoreView) → s.moments ≡ v.stores.cache.moments → StoreStays v.stores.cache s ⊎ Fails v.stores.cache s
     → AreSums (record v.stores { cache = s; pending = None }) v.agent

@@ -47,7 +47,7 @@ cache_torn_from cs v s may z i j = elim (torn_since cs v.stores.cache s may z.ca
 
 -- ---- the records before
 
-key_apart : (q name : Name) → q ≢ name → record_key q ≢ record_key name
+pub key_apart : (q name : Name) → q ≢ name → record_key q ≢ record_key name
 key_apart q name ne e = let f : q ≡ name = cc in ne f
 
 epoch_off : (name : Name) → epoch_key ≢ record_key name

@@ -341,7 +341,7 @@ lacking_there_keeps v m used need limit s h none a = full_keeps v m used need li
 
 -- ---- nothing comes of it
 
-rises_on : (old new : StoreView) → StoreStays old new ⊎ Fails old new → old.faults ≤ new.faults
+pub rises_on : (old new : StoreView) → StoreStays old new ⊎ Fails old new → old.faults ≤ new.faults
 rises_on old new (inl stays) = stays.later
 rises_on old new (inr fails) = fails.closes.later
 

@@ -1,14 +1,14 @@
 -- What a message that reaches the base leaves as it is.
-use Rattle.std.proofs.Common.{◌≡◌, ℕ, ◌∷◌, List, Option, Some, None, Ok, refl, sym, ap, subst, ◌∙◌, arith}
+use Rattle.std.proofs.Common.{◌≡◌, ℕ, ◌∷◌, List, Option, Some, None, Ok, refl, sym, ap, subst, ◌∙◌}
 use Rattle.obj_model.specs.declared.state.NameState.{NameState}
 use Rattle.obj_ops.specs.Acts.{act}
 use Rattle.obj_ops.specs.declared.request.Acted.{Acted}
 use Rattle.tier_protocol.specs.Tiers.{BaseActed, BaseMsg, BaseReply}
-use Rattle.tier_protocol.proofs.Delivers.{in_epoch_by}
-use Rattle.tier_types.specs.Serving.{Served, in_epoch, put_by, served, told_of}
+use Rattle.tier_types.specs.Serving.{put_by, served, told_of}
 use Rattle.tier_view.specs.Serves.{ActsAreNotAnswersAlone, Delivers, DeliveringLeavesRest, LeavesRest, acts, fails, lacks_room, leaves, only_answers, replies_with, strays, takes}
 use Rattle.tier_view.specs.Traffic.{Sent}
 use Rattle.tier_view.specs.Views.{GroupView}
+use Rattle.tier_view.proofs.Delivering.{own_epoch}
 
 -- a group of which this is known
 same_rest : (m : Sent) (told said : Option BaseReply) (v w u : GroupView) → told ≡ said → w ≡ u → LeavesRest m said v u → LeavesRest m told v w
@@ -22,9 +22,6 @@ delivering_leaves_rest v w m told (strays o op r b t answer bytes s a commits sa
 delivering_leaves_rest v w m told (lacks_room used need limit s a said is) = same_rest m told _ v w _ said is (record { messages = refl; replies = refl; flights = refl; calls = refl; answers = refl; cache = refl; agent = refl })
 delivering_leaves_rest v w m told (fails b s p a said is) = same_rest m told _ v w _ said is (record { messages = refl; replies = refl; flights = refl; calls = refl; answers = refl; cache = refl; agent = refl })
 delivering_leaves_rest v w m told (leaves s a said is) = same_rest m told _ v w _ said is (record { messages = refl; replies = refl; flights = refl; calls = refl; answers = refl; cache = refl; agent = refl })
-
-own_epoch : (have : ℕ) (done : Served) → in_epoch have have done ≡ done
-own_epoch have done = in_epoch_by (λ o. o ≡ done) have have done (omega arith) (λ less. absurd (omega (arith, less))) (λ same. refl)
 
 pub acts_are_not_answers_alone : ActsAreNotAnswersAlone
 acts_are_not_answers_alone v m b t op r answer s a at fresh =
