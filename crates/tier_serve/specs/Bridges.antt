@@ -1,5 +1,5 @@
 -- What a base does with a message is what a step of the group may be.
-use Rattle.std.specs.Prelude.{◌≡◌, ◌⊎◌, ◌<◌, ℕ, ◌+◌, Bool, List, Option, Some, None, Result, Ok, Err}
+use Rattle.std.specs.Prelude.{◌≡◌, ◌⊎◌, ◌<◌, ℕ, ◌+◌, Bool, Option, Some, None, Result, Ok, Err}
 use Rattle.base_pool.specs.Opens.{ReadsState}
 use Rattle.base_pool.specs.Serves.{Serves}
 use Rattle.base_pool.specs.Views.{BaseView, IsLive, SoundBase}

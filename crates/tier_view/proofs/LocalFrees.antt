@@ -1,5 +1,5 @@
 -- The cache is only read; and which names let writers in.
-use Rattle.std.proofs.Common.{◌≡◌, ◌≤◌, ◌⊎◌, inl, inr, ℕ, Bool, true, false, List, [], length, Option, Some, None, refl, sym, ap, ◌∙◌}
+use Rattle.std.proofs.Common.{◌≡◌, ◌⊎◌, inl, inr, Bool, true, false, [], length, Option, Some, None, refl, sym, ap, ◌∙◌}
 use Rattle.std.specs.Option.{option_map}
 use Rattle.std.specs.FinMap as fin
 use Rattle.std.proofs.lemmas.List.{append-nil}
@@ -13,7 +13,7 @@ use Rattle.tier_join.specs.Promises.{Promises, as_it_is}
 use Rattle.tier_protocol.specs.Tiers.{Flight, TierRec}
 use Rattle.tier_types.specs.Flights.{is_bare}
 use Rattle.tier_view.specs.Grows.{HaveCome, Remains, no_commit}
-use Rattle.tier_view.specs.Locals.{FreeLetsWrite, LeavesCache, LeavingCacheKeeps, RecordsAreNotBare, with_cache}
+use Rattle.tier_view.specs.Locals.{FreeLetsWrite, LeavingCacheKeeps, RecordsAreNotBare, with_cache}
 use Rattle.tier_view.specs.Stores.{doubt_in}
 use Rattle.tier_view.specs.Views.{GroupView, joined}
 use Rattle.tier_view.specs.Whole.{AreSums, IsWhole}

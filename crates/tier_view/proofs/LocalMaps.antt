@@ -1,5 +1,5 @@
 -- The cache's map before a commit and behind it, and its sums.
-use Rattle.std.proofs.Common.{◌≡◌, ◌≢◌, ◌⊎◌, inl, inr, ℕ, List, ◌∷◌, Option, Some, None, Ok, Err, refl, sym, ap, subst, ◌∙◌, arith}
+use Rattle.std.proofs.Common.{◌≡◌, ◌≢◌, ◌⊎◌, inl, inr, ℕ, List, Option, None, sym, ap, subst, ◌∙◌, arith}
 use Rattle.std.specs.FinMap as fin
 use Rattle.agent_state.specs.declared.totals.Totals.{Totals}
 use Rattle.pool_keys.proofs.Caches.{record_one}
@@ -7,22 +7,19 @@ use Rattle.agent_state.specs.Modes.{AreTotals}
 use Rattle.obj_model.specs.Names.{name_fault}
 use Rattle.obj_model.specs.declared.change.Change.{Change}
 use Rattle.obj_model.specs.declared.change.Pool.TheVariants.{Cache}
-use Rattle.pool_keys.specs.Keys.{HasPoolKeys, IsPoolKey, epoch_key, record_key}
+use Rattle.pool_keys.specs.Keys.{epoch_key, record_key}
 use Rattle.pool_keys.specs.Left.{IsLeft}
 use Rattle.pool_keys.specs.Maps.{SpellsCache}
 use Rattle.pool_keys.specs.Values.{IsEpochOf, IsRecOf}
 use Rattle.store_face.specs.Calls.{Made, MayBeMade}
-use Rattle.store_face.specs.Tables.{Table, changed_by}
+use Rattle.store_face.specs.Tables.{Table}
 use Rattle.store_face.specs.Views.{StoreView}
 use Rattle.tier_join.specs.Group.{TwoMaps, AreLeft, changed_in}
-use Rattle.tier_join.specs.Steps.{Has, sets}
-use Rattle.tier_join.proofs.Keys.{set_is}
 use Rattle.tier_join.proofs.Left.{made_left, now_since, torn_since}
 use Rattle.tier_protocol.specs.Moves.{set_at}
 use Rattle.tier_protocol.specs.Tiers.{Name, Recs, TierRec}
 use Rattle.tier_protocol.proofs.Cells.{get_here, get_there, names_by, same_or_not}
 use Rattle.tier_rec.specs.Records.{totals_after, totals_over}
-use Rattle.tier_view.specs.Locals.{AreFew}
 use Rattle.tier_view.specs.Views.{GroupView, joined}
 use Rattle.tier_view.specs.Whole.{records_in}
 use Rattle.tier_view.proofs.LocalPlaces.{same_at}

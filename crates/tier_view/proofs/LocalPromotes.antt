@@ -1,5 +1,5 @@
 -- A promotion ends, and its request acts at once, in one commit.
-use Rattle.std.proofs.Common.{◌≡◌, ◌≢◌, inl, ℕ, true, false, List, [], length, Option, Some, None, Ok, Err, refl, sym, ap, subst, ◌∙◌}
+use Rattle.std.proofs.Common.{◌≡◌, inl, ℕ, false, List, length, Option, Some, None, Ok, Err, refl, sym, ap, subst, ◌∙◌}
 use Rattle.std.specs.FinMap as fin
 use Rattle.std.specs.Option.{option_map}
 use Rattle.copy_chunk.specs.declared.chunk.Chunk.{Chunk}
@@ -28,7 +28,7 @@ use Rattle.tier_owners.proofs.Quiets.{promoting_quiet}
 use Rattle.tier_protocol.specs.Moves.{MayActHere, MayPromote, promoted, set_at}
 use Rattle.tier_protocol.specs.Owners.{Ledger, with_call_act}
 use Rattle.tier_protocol.specs.Sound.{IsSound}
-use Rattle.tier_protocol.specs.Tiers.{Ask, Flight, Flights, Phase, Recs, Tier, TierRec, cell_of}
+use Rattle.tier_protocol.specs.Tiers.{Ask, Flight, Flights, Phase, Recs, Tier, TierRec}
 use Rattle.tier_protocol.proofs.Cells.{get_here, get_there}
 use Rattle.tier_protocol.proofs.Owners.{quiet_keeps}
 use Rattle.tier_protocol.proofs.Steps.{acting, promoting}

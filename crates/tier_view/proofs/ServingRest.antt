@@ -1,11 +1,10 @@
 -- What a message that reaches the base leaves as it is.
-use Rattle.std.proofs.Common.{◌≡◌, ℕ, ◌∷◌, List, Option, Some, None, Ok, refl, sym, ap, subst, ◌∙◌}
+use Rattle.std.proofs.Common.{◌≡◌, Option, Some, None, refl, sym, ap, subst, ◌∙◌}
 use Rattle.obj_model.specs.declared.state.NameState.{NameState}
 use Rattle.obj_ops.specs.Acts.{act}
-use Rattle.obj_ops.specs.declared.request.Acted.{Acted}
-use Rattle.tier_protocol.specs.Tiers.{BaseActed, BaseMsg, BaseReply}
+use Rattle.tier_protocol.specs.Tiers.{BaseReply}
 use Rattle.tier_types.specs.Serving.{put_by, served, told_of}
-use Rattle.tier_view.specs.Serves.{ActsAreNotAnswersAlone, Delivers, DeliveringLeavesRest, LeavesRest, acts, fails, lacks_room, leaves, only_answers, replies_with, strays, takes}
+use Rattle.tier_view.specs.Serves.{ActsAreNotAnswersAlone, DeliveringLeavesRest, LeavesRest, acts, fails, lacks_room, leaves, only_answers, strays, takes}
 use Rattle.tier_view.specs.Traffic.{Sent}
 use Rattle.tier_view.specs.Views.{GroupView}
 use Rattle.tier_view.proofs.Delivering.{own_epoch}

@@ -1,12 +1,11 @@
 -- A Write acts on a base, and its owner may not act: stores that do not both tell.
-use Rattle.std.proofs.Common.{◌≡◌, inl, inr, ℕ, ◌+◌, List, ◌∷◌, Option, Some, None, refl, sym, ap, subst, ◌∙◌}
+use Rattle.std.proofs.Common.{◌≡◌, inl, inr, ℕ, ◌+◌, List, Some, None, refl, ap, ◌∙◌}
 use Rattle.obj_model.specs.declared.change.Change.{Change}
 use Rattle.obj_model.specs.declared.reply.Reply.{Reply}
 use Rattle.obj_model.specs.declared.req.Req.{Req}
 use Rattle.obj_model.specs.declared.state.NameState.{NameState}
 use Rattle.obj_ops.specs.Acts.{act}
 use Rattle.obj_ops.specs.declared.request.Acted.{Acted}
-use Rattle.obj_ops.specs.declared.request.Acted.TheVariants.{Fresh}
 use Rattle.pool_keys.specs.Keys.{state_key}
 use Rattle.store_face.specs.Calls.{Made}
 use Rattle.store_face.specs.Views.{StoreView}
@@ -14,9 +13,8 @@ use Rattle.tier_join.specs.Group.{BothTell, IsSoundMemory, Memory}
 use Rattle.tier_join.specs.Steps.{sets}
 use Rattle.tier_join.proofs.Left.{tells_on}
 use Rattle.tier_join.proofs.MemoryMoves.{served_memory}
-use Rattle.tier_protocol.specs.Tiers.{BaseActed, BaseMsg, BaseReply}
+use Rattle.tier_protocol.specs.Tiers.{BaseActed, BaseReply}
 use Rattle.tier_types.specs.Serving.{Served, put_by, served, told_of}
-use Rattle.tier_view.specs.Delivers.{CommitsThere}
 use Rattle.tier_view.specs.Grows.{in_base}
 use Rattle.tier_view.specs.Laws.{Keeps}
 use Rattle.tier_join.specs.Promises.{as_it_is}

@@ -12,7 +12,6 @@ use Rattle.obj_model.specs.declared.state.NameState.{NameState}
 use Rattle.obj_model.specs.declared.sub_op.SubOp.{SubOp}
 use Rattle.obj_ops.specs.Acts.{act}
 use Rattle.obj_ops.specs.Stores.{Store}
-use Rattle.obj_ops.specs.declared.request.Acted.{Acted}
 use Rattle.obj_ops.specs.declared.request.Acted.TheVariants.{Fresh}
 use Rattle.pool_keys.specs.Keys.{record_key}
 use Rattle.pool_keys.specs.Left.{IsLeft}
@@ -40,7 +39,7 @@ use Rattle.tier_protocol.specs.Tiers.{Ask, BaseReply, Flight, IsIn, Name, Phase,
 use Rattle.tier_rec.specs.Records.{acted_record, clean_record, totals_after, totals_over}
 use Rattle.tier_types.specs.Flights.{is_bare, lets_write}
 use Rattle.tier_view.specs.Agents.{Agents}
-use Rattle.tier_view.specs.Calls.{Calls, IsInFlight}
+use Rattle.tier_view.specs.Calls.{IsInFlight}
 use Rattle.tier_view.specs.Changes.{gone_in}
 use Rattle.tier_view.specs.Delivers.{IsFirstOf}
 use Rattle.tier_view.specs.Laws.{HasAsked, Keeps}
