@@ -308,11 +308,11 @@ one_promotion call op gather ask kind.Read p h = absurd h
 one_promotion call op gather ask kind.Flush p h = absurd h
 
 pub promoting_here_keeps : PromotingHereKeeps
-promoting_here_keeps v k call op gather ask b moment o s result h none a =
-    ended_by v k (Flight.Promote call op gather ask) op None (Some New) o s h none a.flight refl refl (one_promotion call op gather ask)
+promoting_here_keeps v k call op gather ask b old moment o s result h none a =
+    ended_by v k (Flight.Promote call op gather ask) op old (Some New) o s h none a.flight refl refl (one_promotion call op gather ask)
     (λ res puts start z i w.
     let t = tier_of start (joined v).memory w.spells.recs w.spells.base in
-    put_owned v k o (Some New) None s res puts (set_at v.traffic.flights k None) start z w
+    put_owned v k o (Some New) old s res puts (set_at v.traffic.flights k None) start z w
     (promoting t k call op gather ask b moment w.spells.sound (record { flight = a.flight; whole = a.whole })).0
     (promoting_quiet t k b moment))
     (λ res puts w at same.
