@@ -1,26 +1,19 @@
 -- The base of the group behind a call, and behind a reading.
-use Rattle.std.proofs.Common.{◌≡◌, ◌⊎◌, inl, inr, ℕ, Bool, true, Option, Some, None, Result, Ok, Err, refl, sym, ap, subst, ◌∙◌}
-use Rattle.base_pool.specs.Opens.{ReadsState}
-use Rattle.base_pool.specs.Serves.{Answers, FailsCommit, FailsReading, Replies, Serves, StaysBase}
-use Rattle.base_pool.specs.Views.{BaseView, Has, IsLive, SoundBase}
+use Rattle.std.proofs.Common.{◌≡◌, inl, inr, ℕ, Bool, Option, Some, None, Result, Ok, Err, sym, ap, ◌∙◌}
+use Rattle.base_pool.specs.Serves.{Answers, Replies, Serves}
+use Rattle.base_pool.specs.Views.{BaseView, Has}
 use Rattle.base_pool.specs.declared.fault.BaseFault.{BaseFault}
 use Rattle.base_pool.specs.declared.fault.BaseFault.TheVariants.{Store, BadRecord}
 use Rattle.obj_model.specs.declared.reply.Reply.{Reply}
-use Rattle.obj_model.specs.declared.state.NameState.{NameState}
-use Rattle.pool_keys.specs.Left.{IsLeft}
-use Rattle.store_face.specs.Tables.{Table}
-use Rattle.store_face.specs.Views.{StoreView}
 use Rattle.store_face.specs.declared.fault.StoreFault.TheVariants as store
-use Rattle.tier_join.specs.Steps.{HasState}
 use Rattle.tier_join.proofs.Left.{read_is_left, rests_left}
 use Rattle.tier_protocol.specs.Tiers.{Name}
 use Rattle.tier_types.specs.Serving.{name_in}
 use Rattle.tier_types.specs.declared.message.BaseActed.{BaseActed}
-use Rattle.tier_types.specs.declared.message.BaseMsg.{BaseMsg}
 use Rattle.tier_types.specs.declared.message.BaseReply.{BaseReply}
 use Rattle.tier_view.specs.Delivers.{with_base}
 use Rattle.tier_view.specs.Serves.{replied_there}
-use Rattle.tier_view.specs.Views.{GroupView, joined}
+use Rattle.tier_view.specs.Views.{GroupView}
 use Rattle.tier_view.specs.declared.parts.Pending.{Pending}
 use Rattle.tier_view.specs.declared.parts.Sent.{Sent}
 use Rattle.tier_view.proofs.ServingWorlds.{name_epoch}

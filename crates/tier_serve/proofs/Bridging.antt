@@ -1,39 +1,36 @@
 -- Whatever a base answers, what becomes of the group is a step of the message.
-use Rattle.std.proofs.Common.{◌≡◌, ◌⊎◌, ◌≤◌, ◌<◌, inl, inr, ℕ, ◌+◌, Bool, true, false, List, [], ◌∷◌, Option, Some, None, Result, Ok, Err, refl, sym, ap, subst, ◌∙◌, arith}
-use Rattle.base_pool.specs.Serves.{Answers, Commits, FailsCommit, FailsReading, IsDamaged, IsSpelled, LacksMemory, Makes, Replies, Serves, StaysBase, WearsEpoch, WearsStore, changes_by, state_put}
+use Rattle.std.proofs.Common.{◌≡◌, ◌⊎◌, ◌≤◌, inl, inr, ℕ, Bool, false, List, Option, Some, None, Result, Ok, Err, refl, sym, ap, subst, ◌∙◌}
+use Rattle.base_pool.specs.Serves.{Answers, FailsCommit, FailsReading, IsSpelled, Makes, Replies, Serves, StaysBase, changes_by, state_put}
 use Rattle.base_pool.specs.Views.{BaseView, IsLive, SoundBase}
 use Rattle.base_pool.specs.declared.fault.BaseFault.{BaseFault}
 use Rattle.base_pool.specs.declared.fault.BaseFault.TheVariants.{Store, BadRecord}
 use Rattle.obj_model.specs.Limits.{number_limit}
 use Rattle.obj_model.specs.declared.change.Change.{Change}
-use Rattle.obj_model.specs.declared.change.Change.TheVariants.{Put}
 use Rattle.obj_model.specs.declared.reply.Reply.{Reply}
 use Rattle.obj_model.specs.declared.req.Req.{Req}
 use Rattle.obj_model.specs.declared.state.NameState.{NameState}
 use Rattle.obj_ops.specs.Acts.{act}
 use Rattle.obj_ops.specs.declared.request.Acted.{Acted}
 use Rattle.obj_ops.specs.declared.request.Acted.TheVariants.{Fresh, Again, Stale, Worn}
-use Rattle.pool_keys.specs.Keys.{epoch_key, state_key}
+use Rattle.pool_keys.specs.Keys.{state_key}
 use Rattle.rec_codec.specs.Spelling.{SpellsState, state_bytes}
-use Rattle.store_face.specs.Calls.{Made, MayBeMade}
+use Rattle.store_face.specs.Calls.{Made}
 use Rattle.store_face.specs.Views.{StoreView}
 use Rattle.store_face.specs.declared.fault.StoreFault.TheVariants as store
 use Rattle.tier_chron.specs.Laws.{MayAct}
-use Rattle.tier_chron.specs.declared.entries.First.{First}
 use Rattle.tier_join.specs.Steps.{HasState, HasStateFor, sets}
 use Rattle.tier_owners.specs.Calls.{is_write_message}
-use Rattle.tier_types.specs.Serving.{Served, epoch_in, in_epoch, name_in, opid_in, put_by, served, told_of}
+use Rattle.tier_types.specs.Serving.{Served, epoch_in, name_in, opid_in, put_by, served, told_of}
 use Rattle.tier_types.specs.declared.message.BaseActed.{BaseActed}
 use Rattle.tier_types.specs.declared.message.BaseMsg.{BaseMsg}
 use Rattle.tier_types.specs.declared.message.BaseReply.{BaseReply}
-use Rattle.tier_view.specs.Delivers.{ActsThere, CommitsThere, IsFirstThere, acted_there, with_base}
-use Rattle.tier_view.specs.Serves.{Delivers, FailsThere, LeavesBase, NeedsChange, NeedsNone, ReadsThere, acts, fails, lacks_room, leaves, only_answers, puts, replied_there, rises, served_there, strays, takes}
+use Rattle.tier_view.specs.Delivers.{CommitsThere, IsFirstThere, acted_there, with_base}
+use Rattle.tier_view.specs.Serves.{Delivers, NeedsChange, ReadsThere, acts, fails, lacks_room, leaves, only_answers, puts, replied_there, rises, served_there, strays, takes}
 use Rattle.tier_view.specs.declared.parts.Pending.{Pending}
-use Rattle.tier_view.specs.declared.parts.Owner.{Owner}
 use Rattle.tier_view.specs.declared.parts.Sent.{Sent}
 use Rattle.tier_view.specs.Views.{GroupView, calls_in, joined}
-use Rattle.tier_protocol.proofs.Delivers.{in_epoch_by}
 use Rattle.base_pool.proofs.Readings.{own_changes}
+use Rattle.tier_view.proofs.Delivering.{own_epoch}
 use Rattle.tier_view.proofs.ServingWorlds.{in_each}
 use Rattle.tier_serve.specs.Bridges.{Became, BecameActed, Hands, ServingDelivers, base_of, is_owned, strays_there}
 use Rattle.tier_serve.proofs.Shapes.{reads_there, shape_of}
@@ -42,9 +39,6 @@ use Rattle.tier_serve.proofs.Shapes.{reads_there, shape_of}
 made_of : (v : GroupView) (msg : BaseMsg) (b : NameState) (cs : List Change) (old new : StoreView) → NeedsChange v msg b cs → Makes cs old new → Made cs old new
 made_of v msg b cs old new (puts k t bytes name put spelled named is) h = subst (λ c. Made c old new) (sym is) (subst (λ c. Makes c old new) is h)
 made_of v msg b cs old new (rises e bytes same up spelled is) h = subst (λ c. Made c old new) (sym is) (subst (λ c. Makes c old new) is h)
-
-own_epoch : (have : ℕ) (done : Served) → in_epoch have have done ≡ done
-own_epoch have done = in_epoch_by (λ o. o ≡ done) have have done (omega arith) (λ less. absurd (omega (arith, less))) (λ same. refl)
 
 -- the request acted where it is told so
 acts_by : (a : Acted) (answer : Reply) → told_of a ≡ BaseActed.Fresh answer → (t : NameState) × (a ≡ Fresh t answer)

@@ -1,23 +1,21 @@
 -- What a message changes of the base, in the words of the group.
-use Rattle.std.proofs.Common.{◌≡◌, ◌⊎◌, ◌≤◌, ◌<◌, inl, inr, ℕ, ◌+◌, cond, not, Bool, true, false, List, [], ◌∷◌, ◌++◌, Option, Some, None, refl, sym, ap, subst, ◌∙◌, arith}
-use Rattle.std.specs.Prelude.{nat_lt, ◌==◌, if◌then◌else◌}
+use Rattle.std.proofs.Common.{◌≡◌, ◌⊎◌, ◌≤◌, ◌<◌, inl, inr, ℕ, not, Bool, true, false, [], ◌∷◌, ◌++◌, Option, Some, None, refl, ap, subst, ◌∙◌, arith}
+use Rattle.std.specs.Prelude.{nat_lt, if◌then◌else◌}
 use Rattle.std.proofs.lemmas.Bool.{eq-eqb, le-ltb, ltb-true, ltb-false}
 use Rattle.base_pool.specs.Serves.{HasFor, IsOn, IsSpelled, changes_by, epoch_put, is_taken, state_put}
-use Rattle.base_pool.specs.Views.{BaseView, IsLive, SoundBase}
+use Rattle.base_pool.specs.Views.{IsLive, SoundBase}
 use Rattle.base_pool.proofs.Readings.{own_changes}
 use Rattle.byteorder.specs.Endian.{big_bytes}
 use Rattle.obj_model.specs.Limits.{number_limit}
 use Rattle.obj_model.specs.Names.{name_fault}
-use Rattle.obj_model.specs.declared.change.Change.{Change}
 use Rattle.obj_model.specs.declared.change.Change.TheVariants.{Put}
 use Rattle.obj_model.specs.declared.state.NameState.{NameState}
 use Rattle.pool_keys.specs.Keys.{epoch_key}
 use Rattle.rec_codec.specs.Spelling.{state_bytes}
-use Rattle.store_face.specs.Views.{Holds, StoreView}
 use Rattle.tier_join.specs.Steps.{Has, HasStateFor}
 use Rattle.tier_join.proofs.Left.{read_is_left}
 use Rattle.tier_protocol.specs.Tiers.{Name}
-use Rattle.tier_types.specs.Serving.{Served, epoch_in, in_epoch, name_in, replies, served}
+use Rattle.tier_types.specs.Serving.{Served, epoch_in, name_in, replies}
 use Rattle.tier_types.specs.declared.message.BaseMsg.{BaseMsg}
 use Rattle.tier_types.specs.declared.message.BaseReply.{BaseReply}
 use Rattle.tier_view.specs.Serves.{NeedsChange, NeedsNone, ReadsThere, puts, rises, served_there}

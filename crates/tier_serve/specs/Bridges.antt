@@ -1,5 +1,5 @@
 -- What a base does with a message is what a step of the group may be.
-use Rattle.std.specs.Prelude.{◌≡◌, ◌⊎◌, ◌<◌, ℕ, ◌+◌, Bool, List, Option, Some, None, Result, Ok, Err}
+use Rattle.std.specs.Prelude.{◌≡◌, ◌⊎◌, ◌<◌, ℕ, ◌+◌, Bool, Option, Some, None, Result, Ok, Err}
 use Rattle.base_pool.specs.Opens.{ReadsState}
 use Rattle.base_pool.specs.Serves.{Serves}
 use Rattle.base_pool.specs.Views.{BaseView, IsLive, SoundBase}
@@ -61,9 +61,9 @@ pub data BecameActed (v : GroupView) (m : Sent) (op : ℕ) (answer : Reply) (s :
       (BaseReply.Wrote v.standing.base_epoch op (BaseActed.Fresh answer)) v.standing.base_epoch s v
       → BecameActed v m op answer s w
 
--- What becomes of the group, and what it is told, by what the base answered: its reply, its epoch and
--- its store are the new ones. A want of room whose numbers say that there is room is no reply. A disk
--- that failed leaves the doubt; any other fault nothing but the store.
+-- What becomes of the group, and what it is told, by what the base answered: its reply, its epoch
+-- and its store are the new ones. A want of room whose numbers say that there is room is no reply. A
+-- disk that failed leaves the doubt; any other fault nothing but the store.
 abbrev pub Became : GroupView → Sent → Option Pending → BaseView → Result BaseReply BaseFault
     → Option BaseReply → GroupView → Type 0
 Became v m p new (Ok (BaseReply.Wrote e op (BaseActed.Fresh answer))) told w =

@@ -96,7 +96,7 @@ torn_from cs v s may z i j = elim (torn_since cs v.stores.base s may z.base (now
 
 -- ---- the two worlds behind it
 
-own_epoch : (have : ℕ) (done : Served) → in_epoch have have done ≡ done
+pub own_epoch : (have : ℕ) (done : Served) → in_epoch have have done ≡ done
 own_epoch have done = in_epoch_by (λ o. o ≡ done) have have done (omega arith) (λ less. absurd (omega (arith, less))) (λ same. refl)
 
 module _ (v : GroupView) (m : Sent) (o : Owner) (op : ℕ) (r : Req) (b t : NameState) (answer : Reply) (first : Option First) (acts : ActsThere v m o op r b t answer first) where

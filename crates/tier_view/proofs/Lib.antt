@@ -17,10 +17,11 @@ pub mod ServingOwners
 pub mod ServingFails
 pub mod ServingStrays
 pub mod ServingAll
+pub mod ServingRest
 pub mod LocalPlaces
 pub mod LocalSums
-pub mod LocalFew
 pub mod LocalMaps
+pub mod LocalFew
 pub mod LocalSteps
 pub mod LocalActSteps
 pub mod LocalActs

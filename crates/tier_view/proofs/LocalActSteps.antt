@@ -1,7 +1,6 @@
 -- A request acts in the cache: the step, by its worlds.
-use Rattle.std.proofs.Common.{◌≡◌, ◌≢◌, ◌≤◌, inl, inr, ℕ, ◌+◌, true, false, List, [], ◌∷◌, ◌++◌, map, length, Option, Some, None, Ok, Err, refl, sym, ap, subst, ◌∙◌}
+use Rattle.std.proofs.Common.{◌≡◌, ◌≢◌, inl, inr, ℕ, true, List, [], ◌∷◌, ◌++◌, map, length, Option, Some, None, Ok, Err, refl, sym, ap, subst, ◌∙◌}
 use Rattle.std.specs.FinMap as fin
-use Rattle.std.specs.Option.{option_map}
 use Rattle.std.proofs.lemmas.List.{append-nil, map-append}
 use Rattle.agent_state.specs.declared.totals.Totals.{Totals}
 use Rattle.obj_model.specs.declared.change.Change.{Change}
@@ -13,45 +12,37 @@ use Rattle.obj_ops.specs.Acts.{act}
 use Rattle.obj_ops.specs.Stores.{Store, state_of}
 use Rattle.obj_ops.specs.declared.request.Acted.TheVariants.{Fresh}
 use Rattle.pool_keys.specs.Keys.{record_key}
-use Rattle.pool_keys.specs.Maps.{SpellsCache}
 use Rattle.pool_keys.specs.Values.{IsRecOf}
-use Rattle.store_face.specs.Calls.{Committed, Made, MayBeMade, Stays as StoreStays}
-use Rattle.store_face.specs.Tables.{changed_by}
+use Rattle.store_face.specs.Calls.{Made, MayBeMade, Stays as StoreStays}
 use Rattle.store_face.specs.Views.{StoreView}
-use Rattle.store_face.specs.declared.fault.StoreFault.TheVariants.{Disk, BadImage, NoSpace, Worn, NoMemory}
-use Rattle.tier_chron.specs.Calls.{Call, call_of}
+use Rattle.store_face.specs.declared.fault.StoreFault.TheVariants.{Disk}
+use Rattle.tier_chron.specs.Calls.{call_of}
 use Rattle.tier_chron.specs.Laws.{IsNamedFor, IsOpeningFor, MayAct}
 use Rattle.tier_chron.specs.Logs.{opened}
 use Rattle.tier_chron.specs.Places.{behind}
-use Rattle.tier_chron.specs.Shapes.{IsAskedBy, is_fault}
+use Rattle.tier_chron.specs.Shapes.{is_fault}
 use Rattle.tier_chron.specs.declared.entries.Act.{Act}
 use Rattle.tier_chron.specs.declared.entries.First.{First}
-use Rattle.tier_chron.specs.declared.entries.Logged.{Logged}
 use Rattle.tier_chron.proofs.Lists.{all_imply}
 use Rattle.tier_chron.proofs.Staying.{act_keeps_shape}
-use Rattle.tier_join.specs.Group.{HasRecordAt, Memory, ShowsIn, TwoMaps, View, AreLeft, BothTell, changed_in, map_in, tier_of, with_act}
+use Rattle.tier_join.specs.Group.{HasRecordAt, Memory, ShowsIn, TwoMaps, View, AreLeft, BothTell, changed_in, map_in, with_act}
 use Rattle.tier_join.specs.Promises.{Promises, with_req}
-use Rattle.tier_join.specs.Steps.{Outcome, after, behind as left_behind, seen, sets, unless_disk}
-use Rattle.tier_join.proofs.CacheSteps.{acting_promises, rec_is}
+use Rattle.tier_join.specs.Steps.{Outcome, behind as left_behind, sets, unless_disk}
 use Rattle.tier_join.proofs.Commits.{some_maps}
-use Rattle.tier_join.proofs.Keys.{IsWith, cache_with, set_is}
+use Rattle.tier_join.proofs.Keys.{set_is}
 use Rattle.tier_join.proofs.Left.{rests_left}
 use Rattle.tier_join.specs.declared.doubt.Doubt.{Doubt}
-use Rattle.tier_owners.proofs.Acting.{acting_owned}
-use Rattle.tier_protocol.specs.Moves.{MayActHere, acted_here, set_at}
-use Rattle.tier_protocol.specs.Owners.{Asking, IsOpen, Ledger, with_call_act}
+use Rattle.tier_protocol.specs.Owners.{IsOpen, Ledger, with_call_act}
 use Rattle.tier_protocol.specs.Tiers.{Flights, Name, TierRec}
-use Rattle.tier_protocol.proofs.Cells.{get_here, get_there}
-use Rattle.tier_protocol.proofs.Steps.{acting, shown}
+use Rattle.tier_protocol.proofs.Cells.{get_here}
 use Rattle.tier_rec.specs.Records.{acted_record, totals_after}
-use Rattle.tier_view.specs.Delivers.{IsFirstOf}
 use Rattle.tier_view.specs.Grows.{Extends, HaveCome, Remains, in_cache, no_commit}
 use Rattle.tier_view.specs.Laws.{Keeps}
 use Rattle.tier_view.specs.Calls.{Flown}
 use Rattle.tier_view.specs.Locals.{ActsOn, PutsRec, with_cache}
 use Rattle.tier_view.specs.Tables.{SoundFlights}
-use Rattle.tier_view.specs.Stores.{Pending, doubt_in}
-use Rattle.tier_view.specs.Views.{GroupView, act_in, asking_by, asking_of, calls_in, joined, ledger_in}
+use Rattle.tier_view.specs.Stores.{Pending}
+use Rattle.tier_view.specs.Views.{GroupView, act_in, calls_in, joined, ledger_in}
 use Rattle.tier_view.specs.Whole.{IsWhole}
 use Rattle.tier_view.specs.Worlds.{Began, IsOwned, IsOwnedWith}
 use Rattle.tier_view.proofs.Beginning.{surely_owned}

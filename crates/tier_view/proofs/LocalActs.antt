@@ -1,65 +1,42 @@
 -- A request acts on a record of the cache, or on what a promotion gathered.
-use Rattle.std.proofs.Common.{◌≡◌, ◌≢◌, ◌≤◌, inl, inr, ℕ, ◌+◌, true, false, List, [], ◌∷◌, ◌++◌, map, length, Option, Some, None, Ok, Err, refl, sym, ap, subst, ◌∙◌}
+use Rattle.std.proofs.Common.{◌≡◌, inl, ℕ, List, length, Option, Some, None, Ok, Err, refl, sym, ap, subst}
 use Rattle.std.specs.FinMap as fin
 use Rattle.std.specs.Option.{option_map}
-use Rattle.std.proofs.lemmas.List.{append-nil, map-append}
-use Rattle.agent_state.specs.declared.totals.Totals.{Totals}
 use Rattle.obj_model.specs.declared.change.Change.{Change}
 use Rattle.obj_model.specs.declared.change.Pool.TheVariants.{Cache}
 use Rattle.obj_model.specs.declared.reply.Reply.{Reply}
 use Rattle.obj_model.specs.declared.req.Req.{Req}
 use Rattle.obj_model.specs.declared.state.NameState.{NameState}
-use Rattle.obj_ops.specs.Acts.{act}
 use Rattle.obj_ops.specs.Stores.{Store, state_of}
-use Rattle.obj_ops.specs.declared.request.Acted.TheVariants.{Fresh}
 use Rattle.pool_keys.specs.Keys.{record_key}
 use Rattle.pool_keys.specs.Maps.{SpellsCache}
-use Rattle.pool_keys.specs.Values.{IsRecOf}
-use Rattle.store_face.specs.Calls.{Committed, Made, MayBeMade, Stays as StoreStays}
-use Rattle.store_face.specs.Tables.{changed_by}
+use Rattle.store_face.specs.Calls.{Committed}
 use Rattle.store_face.specs.Views.{StoreView}
 use Rattle.store_face.specs.declared.fault.StoreFault.TheVariants.{Disk, BadImage, NoSpace, Worn, NoMemory}
-use Rattle.tier_chron.specs.Calls.{Call, call_of}
-use Rattle.tier_chron.specs.Laws.{IsNamedFor, IsOpeningFor, MayAct}
-use Rattle.tier_chron.specs.Logs.{opened}
 use Rattle.tier_chron.specs.Places.{behind}
-use Rattle.tier_chron.specs.Shapes.{IsAskedBy, is_fault}
 use Rattle.tier_chron.specs.declared.entries.Act.{Act}
 use Rattle.tier_chron.specs.declared.entries.First.{First}
-use Rattle.tier_chron.specs.declared.entries.Logged.{Logged}
-use Rattle.tier_chron.proofs.Lists.{all_imply}
-use Rattle.tier_chron.proofs.Staying.{act_keeps_shape}
-use Rattle.tier_join.specs.Group.{HasRecordAt, Memory, ShowsIn, TwoMaps, View, AreLeft, BothTell, changed_in, map_in, tier_of, with_act}
+use Rattle.tier_join.specs.Group.{Memory, TwoMaps, View, AreLeft, changed_in, tier_of, with_act}
 use Rattle.tier_join.specs.Promises.{Promises, with_req}
-use Rattle.tier_join.specs.Steps.{Outcome, after, behind as left_behind, seen, sets, unless_disk}
+use Rattle.tier_join.specs.Steps.{Outcome, after, behind as left_behind, sets, unless_disk}
 use Rattle.tier_join.proofs.CacheSteps.{acting_promises, rec_is}
-use Rattle.tier_join.proofs.Commits.{some_maps}
-use Rattle.tier_join.proofs.Keys.{IsWith, cache_with, set_is}
-use Rattle.tier_join.proofs.Left.{rests_left}
+use Rattle.tier_join.proofs.Keys.{cache_with, set_is}
 use Rattle.tier_join.specs.declared.doubt.Doubt.{Doubt}
 use Rattle.tier_owners.proofs.Acting.{acting_owned}
 use Rattle.tier_protocol.specs.Moves.{MayActHere, acted_here, set_at}
-use Rattle.tier_protocol.specs.Owners.{Asking, IsOpen, Ledger, with_call_act}
-use Rattle.tier_protocol.specs.Tiers.{Name, Recs, Tier, TierRec}
+use Rattle.tier_protocol.specs.Owners.{Ledger, with_call_act}
+use Rattle.tier_protocol.specs.Tiers.{Tier, TierRec}
 use Rattle.tier_protocol.proofs.Cells.{get_here, get_there}
 use Rattle.tier_protocol.proofs.Steps.{acting, shown}
-use Rattle.tier_rec.specs.Records.{acted_record, totals_after}
-use Rattle.tier_view.specs.Delivers.{IsFirstOf}
+use Rattle.tier_rec.specs.Records.{acted_record}
 use Rattle.tier_view.specs.Grows.{Extends, HaveCome, Remains}
 use Rattle.tier_view.specs.Laws.{Keeps}
 use Rattle.tier_view.specs.Locals.{ActingHereKeeps, ActsHere, PutsRec, acted_locally, with_cache}
 use Rattle.tier_view.proofs.LocalActSteps.{acted_made, acted_rests, acted_torn, free_to_act}
-use Rattle.tier_view.specs.Stores.{Pending, doubt_in}
-use Rattle.tier_view.specs.Views.{GroupView, act_in, asking_by, asking_of, calls_in, joined, ledger_in}
+use Rattle.tier_view.specs.Stores.{doubt_in}
+use Rattle.tier_view.specs.Views.{GroupView, act_in, joined, ledger_in}
 use Rattle.tier_view.specs.Whole.{IsWhole}
-use Rattle.tier_view.specs.Worlds.{Began, IsOwned, IsOwnedWith}
-use Rattle.tier_view.proofs.Beginning.{surely_owned}
-use Rattle.tier_view.proofs.Delivering.{history_acts, named_of, opened_more, opening_for}
-use Rattle.tier_view.proofs.Finding.{going_unanswered, no_acts, not_closed}
-use Rattle.tier_view.proofs.LocalMaps.{cache_made_from, cache_torn_from}
-use Rattle.tier_view.proofs.LocalSteps.{cache_grows, cache_keeps, cache_owes, sums_failed, sums_put, sums_rest}
-use Rattle.tier_view.proofs.Owning.{knows_more}
-use Rattle.tier_view.proofs.ServingOwners.{asked_by}
+use Rattle.tier_view.specs.Worlds.{IsOwned}
 use Rattle.tier_view.proofs.Resting.{extends_same, remains_itself}
 
 -- ---- on a record

@@ -1,5 +1,5 @@
 -- The sums over the records of a live store are within their limit.
-use Rattle.std.proofs.Common.{◌≡◌, ◌≢◌, ◌≤◌, ℕ, ◌+◌, ◌^◌, cond, Bool, true, false, List, [], ◌∷◌, ◌++◌, map, length, Option, Some, None, refl, sym, ap, subst, ◌∙◌, arith}
+use Rattle.std.proofs.Common.{◌≡◌, ◌≢◌, ◌≤◌, ℕ, ◌+◌, cond, Bool, true, false, List, [], ◌∷◌, ◌++◌, map, length, Option, Some, None, refl, sym, ap, subst, ◌∙◌, arith}
 use Rattle.std.specs.FinMap as fin
 use Rattle.std.specs.Cmp.Lexicographic.{nat_list_cmp_total}
 use Rattle.std.specs.List.{AllByRecursion, count_by, sum_by}
@@ -11,21 +11,21 @@ use Rattle.byteorder.specs.Endian.{big_bytes}
 use Rattle.obj_model.specs.declared.state.NameState.{NameState}
 use Rattle.obj_model.specs.declared.state.Obj.{Obj}
 use Rattle.pool_keys.specs.Keys.{record_key}
-use Rattle.pool_keys.specs.Left.{IsLeft}
 use Rattle.pool_keys.specs.Maps.{SpellsCache}
 use Rattle.pool_keys.specs.Values.{IsRecOf}
 use Rattle.pool_keys.proofs.Entries.{each_entry}
 use Rattle.rec_codec.specs.Spelling.{SpellsTier, kept_list, mark, object, object_or_none, state_bytes, string, table, tier_bytes}
 use Rattle.store_face.specs.Limits.{IsPoolMap, entry_weight, weight}
 use Rattle.store_face.specs.Tables.{Table}
-use Rattle.store_face.specs.Views.{CrashMaps, Holds, IsOne, Sound, StoreView, no_map}
+use Rattle.store_face.specs.Views.{CrashMaps, IsOne, no_map}
 use Rattle.tier_join.proofs.Left.{read_is_left}
 use Rattle.tier_outside.specs.Moments.{Now}
 use Rattle.tier_protocol.specs.Tiers.{Name, Recs, TierRec}
 use Rattle.tier_protocol.proofs.Cells.{get_there}
 use Rattle.tier_rec.specs.Records.{body_bytes, totals_over, weight_of}
-use Rattle.tier_view.specs.Locals.{AreFew, SoundIsFew}
+use Rattle.tier_view.specs.Locals.{SoundIsFew}
 use Rattle.tier_view.specs.Whole.{records_in}
+use Rattle.tier_view.proofs.LocalMaps.{key_apart}
 use Rattle.tier_view.proofs.LocalPlaces.{AreAlone, Place, alone, none_found, place, put_anew, same_at}
 
 -- ---- a body is no longer than its record's spelling
@@ -91,9 +91,6 @@ taken_out x key bytes has = omega (arith, whole, apart, rest)
 
     rest : weight (fin.remove x key) ≡ sum_by entry_weight p.before + sum_by entry_weight p.behind
     rest = ap (sum_by entry_weight) p.is ∙ sum_by-append entry_weight p.before p.behind
-
-key_apart : (q name : Name) → q ≢ name → record_key q ≢ record_key name
-key_apart q name ne e = let f : q ≡ name = cc in ne f
 
 moved_rows : (x : Table) (k : Name) (es : List Row) → AllByRecursion (λ d. d.0 ≢ k) es → AllByRecursion (HasRow x) es → AllByRecursion (HasRow (fin.remove x (record_key k))) es
 moved_rows x k [] apart h = tt

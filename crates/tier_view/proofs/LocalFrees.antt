@@ -1,5 +1,5 @@
 -- The cache is only read; and which names let writers in.
-use Rattle.std.proofs.Common.{◌≡◌, ◌≤◌, ◌⊎◌, inl, inr, ℕ, Bool, true, false, List, [], length, Option, Some, None, refl, sym, ap, ◌∙◌}
+use Rattle.std.proofs.Common.{◌≡◌, ◌⊎◌, inl, inr, Bool, true, false, [], length, Option, Some, None, refl, sym, ap, ◌∙◌}
 use Rattle.std.specs.Option.{option_map}
 use Rattle.std.specs.FinMap as fin
 use Rattle.std.proofs.lemmas.List.{append-nil}
@@ -13,17 +13,14 @@ use Rattle.tier_join.specs.Promises.{Promises, as_it_is}
 use Rattle.tier_protocol.specs.Tiers.{Flight, TierRec}
 use Rattle.tier_types.specs.Flights.{is_bare}
 use Rattle.tier_view.specs.Grows.{HaveCome, Remains, no_commit}
-use Rattle.tier_view.specs.Locals.{FreeLetsWrite, LeavesCache, LeavingCacheKeeps, RecordsAreNotBare, with_cache}
+use Rattle.tier_view.specs.Locals.{FreeLetsWrite, LeavingCacheKeeps, RecordsAreNotBare, with_cache}
 use Rattle.tier_view.specs.Stores.{doubt_in}
 use Rattle.tier_view.specs.Views.{GroupView, joined}
 use Rattle.tier_view.specs.Whole.{AreSums, IsWhole}
 use Rattle.tier_view.proofs.Beginning.{surely_owned}
 use Rattle.tier_view.proofs.LocalSteps.{cache_grows, cache_keeps, cache_owes, sums_failed, sums_rest}
+use Rattle.tier_view.proofs.Serving.{rises_on}
 use Rattle.tier_view.proofs.Resting.{extends_same, remains_itself}
-
-rises_on : (old new : StoreView) → StoreStays old new ⊎ Fails old new → old.faults ≤ new.faults
-rises_on old new (inl stays) = stays.later
-rises_on old new (inr fails) = fails.closes.later
 
 sums_on : (v : GroupView) (h : IsWhole v) (none : v.stores.pending ≡ None) (s : StoreView) → s.moments ≡ v.stores.cache.moments → StoreStays v.stores.cache s ⊎ Fails v.stores.cache s
     → AreSums (record v.stores { cache = s; pending = None }) v.agent

@@ -1,5 +1,5 @@
 -- The cache's map before a commit and behind it, and its sums.
-use Rattle.std.proofs.Common.{◌≡◌, ◌≢◌, ◌⊎◌, inl, inr, ℕ, List, ◌∷◌, Option, Some, None, Ok, Err, refl, sym, ap, subst, ◌∙◌, arith}
+use Rattle.std.proofs.Common.{◌≡◌, ◌≢◌, ◌⊎◌, inl, inr, ℕ, List, Option, None, sym, ap, subst, ◌∙◌, arith}
 use Rattle.std.specs.FinMap as fin
 use Rattle.agent_state.specs.declared.totals.Totals.{Totals}
 use Rattle.pool_keys.proofs.Caches.{record_one}
@@ -7,22 +7,19 @@ use Rattle.agent_state.specs.Modes.{AreTotals}
 use Rattle.obj_model.specs.Names.{name_fault}
 use Rattle.obj_model.specs.declared.change.Change.{Change}
 use Rattle.obj_model.specs.declared.change.Pool.TheVariants.{Cache}
-use Rattle.pool_keys.specs.Keys.{HasPoolKeys, IsPoolKey, epoch_key, record_key}
+use Rattle.pool_keys.specs.Keys.{epoch_key, record_key}
 use Rattle.pool_keys.specs.Left.{IsLeft}
 use Rattle.pool_keys.specs.Maps.{SpellsCache}
 use Rattle.pool_keys.specs.Values.{IsEpochOf, IsRecOf}
 use Rattle.store_face.specs.Calls.{Made, MayBeMade}
-use Rattle.store_face.specs.Tables.{Table, changed_by}
+use Rattle.store_face.specs.Tables.{Table}
 use Rattle.store_face.specs.Views.{StoreView}
 use Rattle.tier_join.specs.Group.{TwoMaps, AreLeft, changed_in}
-use Rattle.tier_join.specs.Steps.{Has, sets}
-use Rattle.tier_join.proofs.Keys.{set_is}
 use Rattle.tier_join.proofs.Left.{made_left, now_since, torn_since}
 use Rattle.tier_protocol.specs.Moves.{set_at}
 use Rattle.tier_protocol.specs.Tiers.{Name, Recs, TierRec}
 use Rattle.tier_protocol.proofs.Cells.{get_here, get_there, names_by, same_or_not}
 use Rattle.tier_rec.specs.Records.{totals_after, totals_over}
-use Rattle.tier_view.specs.Locals.{AreFew}
 use Rattle.tier_view.specs.Views.{GroupView, joined}
 use Rattle.tier_view.specs.Whole.{records_in}
 use Rattle.tier_view.proofs.LocalPlaces.{same_at}
@@ -47,7 +44,7 @@ cache_torn_from cs v s may z i j = elim (torn_since cs v.stores.cache s may z.ca
 
 -- ---- the records before
 
-key_apart : (q name : Name) → q ≢ name → record_key q ≢ record_key name
+pub key_apart : (q name : Name) → q ≢ name → record_key q ≢ record_key name
 key_apart q name ne e = let f : q ≡ name = cc in ne f
 
 epoch_off : (name : Name) → epoch_key ≢ record_key name

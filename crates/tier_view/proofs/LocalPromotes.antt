@@ -1,5 +1,5 @@
 -- A promotion ends, and its request acts at once, in one commit.
-use Rattle.std.proofs.Common.{◌≡◌, ◌≢◌, inl, ℕ, true, false, List, [], length, Option, Some, None, Ok, Err, refl, sym, ap, subst, ◌∙◌}
+use Rattle.std.proofs.Common.{◌≡◌, inl, ℕ, false, List, length, Option, Some, None, Ok, Err, refl, sym, ap, subst, ◌∙◌}
 use Rattle.std.specs.FinMap as fin
 use Rattle.std.specs.Option.{option_map}
 use Rattle.copy_chunk.specs.declared.chunk.Chunk.{Chunk}
@@ -28,7 +28,7 @@ use Rattle.tier_owners.proofs.Quiets.{promoting_quiet}
 use Rattle.tier_protocol.specs.Moves.{MayActHere, MayPromote, promoted, set_at}
 use Rattle.tier_protocol.specs.Owners.{Ledger, with_call_act}
 use Rattle.tier_protocol.specs.Sound.{IsSound}
-use Rattle.tier_protocol.specs.Tiers.{Ask, Flight, Flights, Phase, Recs, Tier, TierRec, cell_of}
+use Rattle.tier_protocol.specs.Tiers.{Ask, Flight, Flights, Phase, Recs, Tier, TierRec}
 use Rattle.tier_protocol.proofs.Cells.{get_here, get_there}
 use Rattle.tier_protocol.proofs.Owners.{quiet_keeps}
 use Rattle.tier_protocol.proofs.Steps.{acting, promoting}
@@ -48,7 +48,7 @@ use Rattle.tier_view.proofs.LocalActSteps.{acted_made, acted_rests, acted_torn, 
 use Rattle.tier_view.proofs.LocalPuts.{freed_owned, one_promotion}
 use Rattle.tier_view.proofs.LocalWork.{flown_gone, one_number, work_gone}
 
-module _ (v : GroupView) (call line : ℕ) (q : Req) (waiter op : ℕ) (gather : List Chunk) (ask : Ask) (b t : NameState) (answer : Reply) (first : Option First) (moment : ℕ) (o : Option (List ℕ))
+module _ (v : GroupView) (call line : ℕ) (q : Req) (waiter op : ℕ) (gather : List Chunk) (ask : Ask) (b t : NameState) (answer : Reply) (first : Option First) (old : Option TierRec) (moment : ℕ) (o : Option (List ℕ))
     (s : StoreView) (h : IsWhole v) (none : v.stores.pending ≡ None) (w : PromotesHere v q.name waiter op gather ask b) (a : ActsOn v call line q b t answer first) where
   abbrev A : Act
   A = record { call = call; line = line; req = q; reply = answer }
@@ -87,7 +87,7 @@ module _ (v : GroupView) (call line : ℕ) (q : Req) (waiter op : ℕ) (gather :
   kept : (start : Store) (z : TwoMaps) → AreLeft (joined v) z → IsOwned start Mem L z → IsOwned start Rest L z
   kept start z i k = freed_owned v q.name (ap is_write w.flight) start z k
 
-  module _ (result : Outcome) (puts : PutsRec v q.name None (Some New) o s result) where
+  module _ (result : Outcome) (puts : PutsRec v q.name old (Some New) o s result) where
     promised_so : (u : View) → u.cache ≡ s → u ≡ left_behind Cache (with_act q Rest) (unless_disk Rest Mem) (Doubt.Act Cache q t.seq) result (joined v) u → Promises (with_req q) (joined v) u
     promised_so u at same =
         promoting_acts_promises (joined v) u q waiter op gather ask b t answer moment o result (ap (option_map doubt_in) none) (record { flight = w.flight; whole = w.whole }) a.acts puts.named puts.spelled
@@ -141,12 +141,12 @@ module _ (v : GroupView) (call line : ℕ) (q : Req) (waiter op : ℕ) (gather :
       plain_here : state_of (behind start v.log.acts) q.name ≡ b
       plain_here = sym (promoting T q.name waiter op gather ask b moment k.spells.sound there).1
 
-  by_result : (result : Outcome) → PutsRec v q.name None (Some New) o s result → Keeps (with_req q) None v (acted_promoting op first A t moment s result v)
+  by_result : (result : Outcome) → PutsRec v q.name old (Some New) o s result → Keeps (with_req q) None v (acted_promoting op first A old t moment s result v)
   by_result (Ok done) puts =
-      acted_made v call line q None b t answer first moment o s Gone Flew h none a gone_sound gone_work
+      acted_made v call line q old b t answer first moment o s Gone Flew h none a gone_sound gone_work
       (acted_owned (Ok done) puts) kept (plain_here (Ok done) puts) done puts (promised_so (Ok done) puts)
   by_result (Err Disk) puts =
-      acted_torn v call line q None b t answer first moment o s Gone Flew h none a gone_sound gone_work
+      acted_torn v call line q old b t answer first moment o s Gone Flew h none a gone_sound gone_work
       (acted_owned (Err Disk) puts) kept (plain_here (Err Disk) puts) puts (promised_so (Err Disk) puts)
   by_result (Err (BadImage at)) puts = absurd puts.committed
   by_result (Err (NoSpace used need limit)) puts = acted_rests v h none q s puts.committed.1 (promised_so (Err (NoSpace used need limit)) puts (joined (with_cache s None v)) refl refl)
@@ -154,4 +154,4 @@ module _ (v : GroupView) (call line : ℕ) (q : Req) (waiter op : ℕ) (gather :
   by_result (Err NoMemory) puts = acted_rests v h none q s puts.committed (promised_so (Err NoMemory) puts (joined (with_cache s None v)) refl refl)
 
 pub promoting_acts_here_keeps : PromotingActsHereKeeps
-promoting_acts_here_keeps v call line q waiter op gather ask b t answer first moment o s result h none w a puts = by_result v call line q waiter op gather ask b t answer first moment o s h none w a result puts
+promoting_acts_here_keeps v call line q waiter op gather ask b t answer first old moment o s result h none w a puts = by_result v call line q waiter op gather ask b t answer first old moment o s h none w a result puts

@@ -1,5 +1,5 @@
 -- A record of the cache comes or goes, and the plain store stays.
-use Rattle.std.proofs.Common.{◌≡◌, ◌≢◌, ◌≤◌, inl, inr, ℕ, ◌+◌, Bool, true, false, List, [], ◌∷◌, ◌++◌, length, Option, Some, None, Ok, Err, refl, sym, ap, subst, ◌∙◌}
+use Rattle.std.proofs.Common.{◌≡◌, inl, inr, ℕ, Bool, false, List, [], length, Option, Some, None, Ok, Err, refl, sym, ap, subst, ◌∙◌}
 use Rattle.std.specs.FinMap as fin
 use Rattle.std.specs.Option.{option_map}
 use Rattle.std.proofs.lemmas.List.{append-nil}
@@ -7,7 +7,6 @@ use Rattle.agent_state.specs.declared.totals.Totals.{Totals}
 use Rattle.copy_chunk.specs.declared.chunk.Chunk.{Chunk}
 use Rattle.obj_model.specs.declared.change.Change.{Change}
 use Rattle.obj_model.specs.declared.change.Pool.TheVariants.{Cache}
-use Rattle.obj_model.specs.declared.state.NameState.{NameState}
 use Rattle.obj_model.specs.declared.tier.Kind.{Kind}
 use Rattle.obj_model.specs.declared.tier.Kind.TheVariants as kind
 use Rattle.obj_ops.specs.Stores.{Store}
@@ -19,15 +18,15 @@ use Rattle.store_face.specs.declared.fault.StoreFault.TheVariants.{Disk, BadImag
 use Rattle.tier_join.specs.declared.doubt.Doubt.{Doubt}
 use Rattle.tier_join.specs.Group.{Memory, TwoMaps, View, AreLeft, BothTell, changed_in, tier_of}
 use Rattle.tier_join.specs.Promises.{Promises, as_it_is}
-use Rattle.tier_join.specs.Steps.{Outcome, after, behind as left_behind, sets, unless_disk}
+use Rattle.tier_join.specs.Steps.{Outcome, behind as left_behind, sets, unless_disk}
 use Rattle.tier_join.proofs.CacheSteps.{cleaning_promises, draining_promises, evicting_promises, promoting_promises, rec_is}
 use Rattle.tier_join.proofs.Keys.{cache_with, set_is}
 use Rattle.tier_join.proofs.Left.{rests_left}
 use Rattle.tier_owners.proofs.Quiets.{cleaning_quiet, evicting_quiet, promoting_quiet, quiet_at}
-use Rattle.tier_protocol.specs.Moves.{held, set_at, with_flight, with_rec}
-use Rattle.tier_protocol.specs.Owners.{Ledger, Quiet, SoundOwners}
+use Rattle.tier_protocol.specs.Moves.{set_at, with_flight}
+use Rattle.tier_protocol.specs.Owners.{Ledger, Quiet}
 use Rattle.tier_protocol.specs.Sound.{IsSound, is_dirty}
-use Rattle.tier_protocol.specs.Tiers.{Ask, Flight, Flights, Name, Tier, TierRec}
+use Rattle.tier_protocol.specs.Tiers.{Ask, Flight, Flights, Name, TierRec}
 use Rattle.tier_protocol.proofs.Cells.{get_here, get_there}
 use Rattle.tier_protocol.proofs.Owners.{quiet_keeps}
 use Rattle.tier_protocol.proofs.Steps.{cleaning, evicting, leaving, promoting}
@@ -37,7 +36,7 @@ use Rattle.tier_view.specs.Calls.{Flown}
 use Rattle.tier_view.specs.Changes.{gone_in}
 use Rattle.tier_view.specs.Grows.{Extends, HaveCome, Remains, in_cache, no_commit}
 use Rattle.tier_view.specs.Laws.{Keeps}
-use Rattle.tier_view.specs.Locals.{CleaningHereKeeps, EvictingHereKeeps, EvictsHere, FlushesHere, PromotesHere, PromotingHereKeeps, PutsRec, put_locally, with_cache}
+use Rattle.tier_view.specs.Locals.{CleaningHereKeeps, EvictingHereKeeps, EvictsHere, FlushesHere, PromotingHereKeeps, PutsRec, put_locally, with_cache}
 use Rattle.tier_view.specs.Stores.{Pending, doubt_in}
 use Rattle.tier_view.specs.Tables.{IsOfKind, SoundFlights}
 use Rattle.tier_view.specs.Views.{GroupView, joined, ledger_in}
@@ -309,11 +308,11 @@ one_promotion call op gather ask kind.Read p h = absurd h
 one_promotion call op gather ask kind.Flush p h = absurd h
 
 pub promoting_here_keeps : PromotingHereKeeps
-promoting_here_keeps v k call op gather ask b moment o s result h none a =
-    ended_by v k (Flight.Promote call op gather ask) op None (Some New) o s h none a.flight refl refl (one_promotion call op gather ask)
+promoting_here_keeps v k call op gather ask b old moment o s result h none a =
+    ended_by v k (Flight.Promote call op gather ask) op old (Some New) o s h none a.flight refl refl (one_promotion call op gather ask)
     (λ res puts start z i w.
     let t = tier_of start (joined v).memory w.spells.recs w.spells.base in
-    put_owned v k o (Some New) None s res puts (set_at v.traffic.flights k None) start z w
+    put_owned v k o (Some New) old s res puts (set_at v.traffic.flights k None) start z w
     (promoting t k call op gather ask b moment w.spells.sound (record { flight = a.flight; whole = a.whole })).0
     (promoting_quiet t k b moment))
     (λ res puts w at same.

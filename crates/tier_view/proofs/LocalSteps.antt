@@ -1,16 +1,12 @@
 -- A step that commits in the cache: what is left to show of it.
-use Rattle.std.proofs.Common.{◌≡◌, ◌≤◌, ◌⊎◌, inl, inr, ℕ, ◌+◌, true, false, List, [], ◌∷◌, ◌++◌, length, Option, Some, None, Ok, Err, refl, sym, ap, subst, ◌∙◌, true≢false, arith}
-use Rattle.std.specs.FinMap as fin
-use Rattle.std.specs.Option.{option_map}
+use Rattle.std.proofs.Common.{◌≡◌, ◌≤◌, ℕ, ◌+◌, true, false, List, [], ◌++◌, length, Option, None, Ok, refl, sym, subst, ◌∙◌, true≢false, arith}
 use Rattle.std.proofs.lemmas.List.{append-nil}
 use Rattle.agent_state.specs.declared.totals.Totals.{Totals}
-use Rattle.obj_model.specs.declared.change.Pool.TheVariants.{Base, Cache}
+use Rattle.obj_model.specs.declared.change.Pool.TheVariants.{Cache}
 use Rattle.obj_ops.specs.Stores.{Store}
 use Rattle.pool_keys.specs.Keys.{record_key}
-use Rattle.pool_keys.specs.Left.{IsLeft}
 use Rattle.pool_keys.specs.Maps.{SpellsCache}
-use Rattle.store_face.specs.Calls.{Committed, Made, MayBeMade}
-use Rattle.store_face.specs.Tables.{Table}
+use Rattle.store_face.specs.Calls.{Made}
 use Rattle.store_face.specs.Views.{StoreView}
 use Rattle.tier_chron.specs.Shapes.{IsShaped}
 use Rattle.tier_chron.specs.declared.entries.Act.{Act}
@@ -20,18 +16,17 @@ use Rattle.tier_join.specs.Promises.{Promises}
 use Rattle.tier_join.specs.Steps.{sets}
 use Rattle.tier_join.proofs.Keys.{set_is}
 use Rattle.tier_join.proofs.Left.{made_left, rests_left}
-use Rattle.tier_protocol.specs.Tiers.{Flights, Name, Recs, TierRec}
-use Rattle.tier_rec.specs.Records.{totals_after, totals_over}
+use Rattle.tier_protocol.specs.Tiers.{Flights, Name, TierRec}
 use Rattle.tier_view.specs.Agents.{Agents}
 use Rattle.tier_view.specs.Calls.{Flown}
 use Rattle.tier_view.specs.Grows.{AreEntered, Extends, Grows, HaveCome, OneCommit, Remains, Stays}
 use Rattle.tier_view.specs.Laws.{Keeps}
 use Rattle.tier_view.specs.Locals.{PutsRec, resummed}
 use Rattle.tier_view.specs.Owed.{Owes}
-use Rattle.tier_view.specs.Stores.{Pending, Stores}
+use Rattle.tier_view.specs.Stores.{Pending}
 use Rattle.tier_view.specs.Tables.{IsUnanswered, SoundFlights}
 use Rattle.tier_view.specs.Views.{GroupView, calls_in, joined}
-use Rattle.tier_view.specs.Whole.{AreSums, IsElsewhere, IsKnown, IsWhole, records_in}
+use Rattle.tier_view.specs.Whole.{AreSums, IsElsewhere, IsKnown, IsWhole}
 use Rattle.tier_view.specs.Worlds.{Began, MayPend}
 use Rattle.tier_view.proofs.Keeping.{steps_keep}
 use Rattle.tier_view.proofs.LocalMaps.{sums_after}

@@ -1,14 +1,13 @@
 -- The work on a name goes, in the table too.
-use Rattle.std.proofs.Common.{◌≡◌, ◌≢◌, ◌≤◌, ◌⊎◌, inl, inr, ℕ, ◌==◌, Bool, true, false, List, [], ◌∷◌, map, length, Option, Some, None, refl, sym, ap, subst, ◌∙◌, arith}
+use Rattle.std.proofs.Common.{◌≡◌, ◌≢◌, ◌≤◌, ◌⊎◌, inl, inr, ℕ, ◌==◌, Bool, true, false, List, [], ◌∷◌, map, Option, Some, None, refl, sym, ap, subst, ◌∙◌, arith}
 use Rattle.std.specs.Prelude.{if◌then◌else◌}
 use Rattle.std.specs.FinMap as fin
 use Rattle.std.specs.List.{AllByRecursion}
 use Rattle.std.proofs.lemmas.Bool.{eqb-false, ne_eqb}
 use Rattle.obj_model.specs.declared.tier.Kind.{Kind}
-use Rattle.obj_model.specs.declared.tier.Kind.TheVariants as kind
 use Rattle.tier_protocol.specs.Memory.{AreApart}
 use Rattle.tier_protocol.specs.Moves.{set_at}
-use Rattle.tier_protocol.specs.Tiers.{Flight, Flights, IsIn, Name, ReadFlight}
+use Rattle.tier_protocol.specs.Tiers.{Flight, Flights, IsIn, Name}
 use Rattle.tier_protocol.proofs.Cells.{get_here, get_there, same_or_not}
 use Rattle.tier_types.specs.Flights.{HasOpid}
 use Rattle.tier_view.specs.Calls.{Entry, Flown}

@@ -1,9 +1,9 @@
 -- A message reaches the base: each outcome but a failure of its disk.
-use Rattle.std.proofs.Common.{◌≡◌, ◌≤◌, ◌<◌, ◌⊎◌, inl, inr, ℕ, ◌+◌, false, List, [], ◌∷◌, length, Option, Some, None, Ok, Err, refl, sym, ap, subst, ◌∙◌, arith}
+use Rattle.std.proofs.Common.{◌≡◌, ◌≤◌, ◌<◌, ◌⊎◌, inl, inr, ℕ, ◌+◌, false, List, [], ◌∷◌, length, Option, None, Ok, Err, refl, sym, ap, subst, ◌∙◌, arith}
 use Rattle.std.specs.Option.{option_map}
 use Rattle.std.proofs.lemmas.List.{append-nil}
 use Rattle.obj_model.specs.declared.change.Change.{Change}
-use Rattle.obj_model.specs.declared.change.Pool.TheVariants.{Base, Cache}
+use Rattle.obj_model.specs.declared.change.Pool.TheVariants.{Cache}
 use Rattle.obj_model.specs.declared.req.Req.{Req}
 use Rattle.obj_model.specs.declared.state.NameState.{NameState}
 use Rattle.obj_ops.specs.Stores.{Store}
@@ -12,18 +12,17 @@ use Rattle.store_face.specs.Calls.{Committed, Fails, Stays as StoreStays}
 use Rattle.store_face.specs.Tables.{changed_by}
 use Rattle.store_face.specs.Views.{StoreView}
 use Rattle.store_face.specs.declared.fault.StoreFault.TheVariants.{NoSpace}
-use Rattle.tier_join.specs.Group.{Memory, TwoMaps, View, AreLeft, BothTell, changed_in, tier_of}
+use Rattle.tier_join.specs.Group.{Memory, TwoMaps, View, AreLeft, BothTell, tier_of}
 use Rattle.tier_join.specs.Promises.{Promises, StandsFor, as_it_is}
-use Rattle.tier_join.specs.Steps.{HasState, HasStateFor, IsOver, Outcome, Rests as ViewRests, act_of, after}
+use Rattle.tier_join.specs.Steps.{HasStateFor, IsOver, Outcome, Rests as ViewRests, act_of}
 use Rattle.tier_join.proofs.BaseSteps.{answering_promises, fencing_promises, putting_promises}
 use Rattle.tier_join.proofs.Left.{rests_left}
 use Rattle.tier_join.proofs.MemoryMoves.{no_space_memory}
 use Rattle.tier_join.proofs.Rests.{memory_promises}
 use Rattle.tier_owners.specs.Calls.{is_write_message}
 use Rattle.tier_owners.proofs.Quiets.{filling_quiet}
-use Rattle.tier_protocol.specs.Moves.{acts_with, filled, with_served}
-use Rattle.tier_protocol.specs.Owners.{Ledger}
-use Rattle.tier_protocol.specs.Tiers.{BaseMsg, BaseReply, IsIn, Name, Tier}
+use Rattle.tier_protocol.specs.Moves.{acts_with, filled}
+use Rattle.tier_protocol.specs.Tiers.{BaseMsg, BaseReply, IsIn}
 use Rattle.tier_protocol.proofs.Delivers.{filling}
 use Rattle.tier_protocol.proofs.Owners.{quiet_keeps}
 use Rattle.tier_types.specs.Serving.{Served, epoch_in, name_in, opid_in, replies, served}
@@ -31,10 +30,10 @@ use Rattle.tier_view.specs.Delivers.{with_base}
 use Rattle.tier_view.specs.Grows.{AreEntered, Grows, HaveCome, OneCommit, Remains, Stays, in_base, no_commit}
 use Rattle.tier_view.specs.Laws.{Keeps}
 use Rattle.tier_view.specs.Owed.{Owes}
-use Rattle.tier_view.specs.Serves.{ActlessKeeps, AnsweringThereKeeps, LackingThereKeeps, LacksRoomThere, LeavesBase, LeavingBaseKeeps, NeedsChange, OnlyAnswers, TakesThere, TakingThereKeeps, answered_there, puts, refused_there, rises, served_there, taken_there}
+use Rattle.tier_view.specs.Serves.{ActlessKeeps, AnsweringThereKeeps, LackingThereKeeps, LacksRoomThere, LeavingBaseKeeps, NeedsChange, OnlyAnswers, TakesThere, TakingThereKeeps, answered_there, puts, refused_there, rises, served_there, taken_there}
 use Rattle.tier_view.specs.Stores.{Pending, doubt_in}
 use Rattle.tier_view.specs.Tables.{IsUnanswered}
-use Rattle.tier_view.specs.Traffic.{Replied, Sent, Traffic}
+use Rattle.tier_view.specs.Traffic.{Replied, Sent}
 use Rattle.tier_view.specs.Views.{GroupView, joined, ledger_in}
 use Rattle.tier_view.specs.Whole.{IsElsewhere, IsWhole, SoundTraffic}
 use Rattle.tier_view.specs.Worlds.{Began, HasOwners, IsNextAct, IsOwned, MayPend}
@@ -42,7 +41,7 @@ use Rattle.tier_view.proofs.Beginning.{surely_owned}
 use Rattle.tier_view.proofs.Delivering.{below_next, made_from, on_wire}
 use Rattle.tier_view.proofs.Keeping.{steps_keep}
 use Rattle.tier_view.proofs.Resting.{all_of, extends_same, log_rests, remains_itself, stays_itself}
-use Rattle.tier_view.proofs.ServingWorlds.{acts_none, acts_still, fence_is, name_epoch, needs_based, on_net, put_now, told_owned, unput}
+use Rattle.tier_view.proofs.ServingWorlds.{acts_none, acts_still, fence_is, name_epoch, needs_based, put_now, told_owned, unput}
 
 -- ---- what a step makes of the plain store
 
@@ -341,7 +340,7 @@ lacking_there_keeps v m used need limit s h none a = full_keeps v m used need li
 
 -- ---- nothing comes of it
 
-rises_on : (old new : StoreView) → StoreStays old new ⊎ Fails old new → old.faults ≤ new.faults
+pub rises_on : (old new : StoreView) → StoreStays old new ⊎ Fails old new → old.faults ≤ new.faults
 rises_on old new (inl stays) = stays.later
 rises_on old new (inr fails) = fails.closes.later
 

@@ -1,5 +1,5 @@
 -- A message reaches the base: whatever comes of it.
-use Rattle.std.proofs.Common.{◌≡◌, None, Ok, sym, ap, subst}
+use Rattle.std.proofs.Common.{None, Ok, sym, subst}
 use Rattle.tier_join.specs.Steps.{act_of}
 use Rattle.tier_protocol.specs.Tiers.{BaseActed, BaseReply}
 use Rattle.tier_view.specs.Delivers.{acted_there, with_base}

@@ -8,8 +8,7 @@ use Rattle.obj_model.specs.declared.reply.Reply.{Reply}
 use Rattle.obj_model.specs.declared.req.Req.{Req}
 use Rattle.obj_model.specs.declared.state.NameState.{NameState}
 use Rattle.obj_ops.specs.Acts.{act}
-use Rattle.obj_ops.specs.Stores.{Store, replay, state_of}
-use Rattle.obj_ops.specs.declared.request.Acted.TheVariants.{Fresh}
+use Rattle.obj_ops.specs.Stores.{Store, replay}
 use Rattle.pool_keys.specs.Keys.{state_key}
 use Rattle.pool_keys.specs.Left.{AreTold, Tells}
 use Rattle.pool_keys.specs.Values.{SpellsEpoch}
@@ -32,7 +31,7 @@ use Rattle.tier_join.proofs.Left.{rests_left, rests_since, some_left, tells_on}
 use Rattle.tier_owners.specs.Calls.{is_write_message}
 use Rattle.tier_protocol.proofs.Delivers.{acts_on_plain}
 use Rattle.tier_protocol.specs.Tiers.{BaseMsg, BaseReply, IsIn, Name}
-use Rattle.tier_types.specs.Serving.{Served, epoch_in, in_epoch, name_in, replies, served}
+use Rattle.tier_types.specs.Serving.{Served, in_epoch, name_in, replies, served}
 use Rattle.tier_view.specs.Delivers.{ActsThere, with_base}
 use Rattle.tier_view.specs.Grows.{OneCommit, in_base, no_commit}
 use Rattle.tier_view.specs.Laws.{Keeps}
@@ -41,7 +40,7 @@ use Rattle.tier_view.specs.Stores.{Pending, doubt_in}
 use Rattle.tier_view.specs.Traffic.{Owner, Sent}
 use Rattle.tier_view.specs.Views.{GroupView, joined, ledger_in}
 use Rattle.tier_view.specs.Whole.{IsWhole}
-use Rattle.tier_view.specs.Worlds.{Began, HasOwners, IsNextAct, IsOwned, IsOwnedBy, IsOwnedWith, MayPend}
+use Rattle.tier_view.specs.Worlds.{Began, HasOwners, IsNextAct, IsOwned, IsOwnedBy, MayPend}
 use Rattle.tier_view.proofs.Beginning.{surely_owned}
 use Rattle.tier_view.proofs.Delivered.{delivering_acts_keeps}
 use Rattle.tier_view.proofs.Delivering as deliver

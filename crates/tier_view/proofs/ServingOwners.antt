@@ -1,12 +1,9 @@
 -- The owner of a Write that acts may act, where both stores tell.
-use Rattle.std.proofs.Common.{◌≡◌, ◌≢◌, inl, inr, ℕ, ◌==◌, ◌&&◌, ◌||◌, cond, not, Bool, true, false, List, [], ◌∷◌, map, Option, Some, None, refl, sym, ap, subst, ◌∙◌}
+use Rattle.std.proofs.Common.{◌≡◌, inl, inr, ℕ, ◌&&◌, ◌||◌, not, Bool, true, false, List, [], ◌∷◌, map, Option, Some, None, refl, sym, ap, subst, ◌∙◌}
 use Rattle.std.proofs.lemmas.Bool.{eq-eqb}
 use Rattle.std.specs.List.{AllByRecursion, list_any}
-use Rattle.obj_model.specs.declared.reply.Reply.{Reply}
 use Rattle.obj_model.specs.declared.req.Req.{Req}
-use Rattle.obj_model.specs.declared.state.NameState.{NameState}
 use Rattle.obj_ops.specs.Acts.{act}
-use Rattle.obj_ops.specs.declared.request.Acted.TheVariants.{Fresh}
 use Rattle.tier_chron.specs.Calls.{Call, call_of}
 use Rattle.tier_chron.specs.Shapes as chron
 use Rattle.tier_chron.specs.Shapes.{IsAskedBy, is_fault}
@@ -18,11 +15,11 @@ use Rattle.tier_join.specs.Group.{tier_of}
 use Rattle.tier_join.proofs.BaseSteps.{state_is}
 use Rattle.tier_join.proofs.Commits.{some_maps}
 use Rattle.tier_protocol.specs.Owners.{Asking, HasNoAct, IsOpen}
-use Rattle.tier_protocol.specs.Tiers.{BaseMsg, IsIn}
+use Rattle.tier_protocol.specs.Tiers.{IsIn}
 use Rattle.tier_protocol.proofs.Owners.{acts_for}
 use Rattle.tier_view.specs.Calls.{Entry}
 use Rattle.tier_view.specs.Serves.{OwnersMayAct}
-use Rattle.tier_view.specs.Traffic.{Owner, Sent, wire_of}
+use Rattle.tier_view.specs.Traffic.{Sent, wire_of}
 use Rattle.tier_view.specs.Views.{act_in, asking_by, asking_of, calls_in, closes, joined, ledger_in}
 use Rattle.tier_view.specs.Whole.{HasOwner}
 use Rattle.tier_view.proofs.Beginning.{surely_owned}

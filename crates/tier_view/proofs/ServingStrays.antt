@@ -1,12 +1,11 @@
 -- A Write acts on a base, and its owner may not act: stores that do not both tell.
-use Rattle.std.proofs.Common.{◌≡◌, inl, inr, ℕ, ◌+◌, List, ◌∷◌, Option, Some, None, refl, sym, ap, subst, ◌∙◌, arith}
+use Rattle.std.proofs.Common.{◌≡◌, inl, inr, ℕ, ◌+◌, List, Some, None, refl, ap, ◌∙◌}
 use Rattle.obj_model.specs.declared.change.Change.{Change}
 use Rattle.obj_model.specs.declared.reply.Reply.{Reply}
 use Rattle.obj_model.specs.declared.req.Req.{Req}
 use Rattle.obj_model.specs.declared.state.NameState.{NameState}
 use Rattle.obj_ops.specs.Acts.{act}
 use Rattle.obj_ops.specs.declared.request.Acted.{Acted}
-use Rattle.obj_ops.specs.declared.request.Acted.TheVariants.{Fresh}
 use Rattle.pool_keys.specs.Keys.{state_key}
 use Rattle.store_face.specs.Calls.{Made}
 use Rattle.store_face.specs.Views.{StoreView}
@@ -14,10 +13,8 @@ use Rattle.tier_join.specs.Group.{BothTell, IsSoundMemory, Memory}
 use Rattle.tier_join.specs.Steps.{sets}
 use Rattle.tier_join.proofs.Left.{tells_on}
 use Rattle.tier_join.proofs.MemoryMoves.{served_memory}
-use Rattle.tier_protocol.specs.Tiers.{BaseActed, BaseMsg, BaseReply}
-use Rattle.tier_protocol.proofs.Delivers.{in_epoch_by}
-use Rattle.tier_types.specs.Serving.{Served, in_epoch, put_by, served, told_of}
-use Rattle.tier_view.specs.Delivers.{CommitsThere}
+use Rattle.tier_protocol.specs.Tiers.{BaseActed, BaseReply}
+use Rattle.tier_types.specs.Serving.{Served, put_by, served, told_of}
 use Rattle.tier_view.specs.Grows.{in_base}
 use Rattle.tier_view.specs.Laws.{Keeps}
 use Rattle.tier_join.specs.Promises.{as_it_is}
@@ -25,13 +22,10 @@ use Rattle.tier_view.specs.Serves.{StrayingThereKeeps, StraysThere, replied_ther
 use Rattle.tier_view.specs.Traffic.{Owner, Sent}
 use Rattle.tier_view.specs.Views.{GroupView, joined}
 use Rattle.tier_view.specs.Whole.{IsWhole}
-use Rattle.tier_view.proofs.Delivering.{on_wire}
+use Rattle.tier_view.proofs.Delivering.{on_wire, own_epoch}
 use Rattle.tier_view.proofs.Serving.{Rs, base_keeps, replied_sound}
 use Rattle.tier_view.proofs.ServingFails.{both_or_not}
 use Rattle.tier_view.proofs.ServingOwners.{owners_may_act}
-
-own_epoch : (have : ℕ) (done : Served) → in_epoch have have done ≡ done
-own_epoch have done = in_epoch_by (λ o. o ≡ done) have have done (omega arith) (λ less. absurd (omega (arith, less))) (λ same. refl)
 
 module _ (v : GroupView) (m : Sent) (o : Owner) (op : ℕ) (r : Req) (b t : NameState) (answer : Reply) (cs : List Change) (s : StoreView) (h : IsWhole v) (none : v.stores.pending ≡ None)
     (a : StraysThere v m o op r b t answer) (made : Made cs v.stores.base s) (untold : BothTell (joined v) → ⊥) where

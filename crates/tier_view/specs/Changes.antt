@@ -1,5 +1,5 @@
 -- Small changes of a group's parts, of which its steps are made.
-use Rattle.std.specs.Prelude.{ℕ, ◌==◌, ◌+◌, true, List, [], ◌∷◌, ◌++◌, map, filter, not, if◌then◌else◌}
+use Rattle.std.specs.Prelude.{ℕ, ◌==◌, true, List, [], ◌∷◌, ◌++◌, map, filter, not, if◌then◌else◌}
 use Rattle.tier_view.specs.Calls.{Calls, Entry, Flown}
 use Rattle.tier_view.specs.Stops.{gone_at}
 use Rattle.tier_view.specs.Traffic.{Awaited, Noted, Traffic}

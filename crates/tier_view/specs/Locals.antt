@@ -12,7 +12,6 @@ use Rattle.obj_model.specs.declared.state.NameState.{NameState}
 use Rattle.obj_model.specs.declared.sub_op.SubOp.{SubOp}
 use Rattle.obj_ops.specs.Acts.{act}
 use Rattle.obj_ops.specs.Stores.{Store}
-use Rattle.obj_ops.specs.declared.request.Acted.{Acted}
 use Rattle.obj_ops.specs.declared.request.Acted.TheVariants.{Fresh}
 use Rattle.pool_keys.specs.Keys.{record_key}
 use Rattle.pool_keys.specs.Left.{IsLeft}
@@ -40,7 +39,7 @@ use Rattle.tier_protocol.specs.Tiers.{Ask, BaseReply, Flight, IsIn, Name, Phase,
 use Rattle.tier_rec.specs.Records.{acted_record, clean_record, totals_after, totals_over}
 use Rattle.tier_types.specs.Flights.{is_bare, lets_write}
 use Rattle.tier_view.specs.Agents.{Agents}
-use Rattle.tier_view.specs.Calls.{Calls, IsInFlight}
+use Rattle.tier_view.specs.Calls.{IsInFlight}
 use Rattle.tier_view.specs.Changes.{gone_in}
 use Rattle.tier_view.specs.Delivers.{IsFirstOf}
 use Rattle.tier_view.specs.Laws.{HasAsked, Keeps}
@@ -144,8 +143,8 @@ ActingHereKeeps =
     (acted_locally first (record { call = call; line = line; req = q; reply = answer }) r t moment s
     result v)
 
--- A name that is free to writers by the busy table lets them in: also over stores that tell nothing,
--- where work that the cache should have no record for is ruled out otherwise.
+-- A name that is free to writers by the busy table lets them in, where its work is none for which
+-- the cache has no record.
 abbrev pub FreeLetsWrite : Type 0
 FreeLetsWrite =
     (work : Option Flight) → busy_at work want.Write ≡ None → is_bare work ≡ false
@@ -212,7 +211,8 @@ CleaningHereKeeps =
     × (PutsRec v k (Some r) None None s result
     → Keeps as_it_is None v (put_locally k (Some op) (Some r) None s result v))
 
--- a promotion that has all chunks ends with a clean record of this moment
+-- A promotion that has all chunks ends with a clean record of this moment. Where both stores tell
+-- there was no record; over others one may be read, and then gives place.
 pub record PromotesHere (v : GroupView) (k : Name) (call op : ℕ) (gather : List Chunk) (ask : Ask)
     (b : NameState) : Type 0 where
   pub flight : fin.get v.traffic.flights k ≡ Some (Flight.Promote call op gather ask)
@@ -221,38 +221,39 @@ pub record PromotesHere (v : GroupView) (k : Name) (call op : ℕ) (gather : Lis
 abbrev pub PromotingHereKeeps : Type 0
 PromotingHereKeeps =
     (v : GroupView) (k : Name) (call op : ℕ) (gather : List Chunk) (ask : Ask) (b : NameState)
-    (moment : ℕ) (o : Option (List ℕ)) (s : StoreView) (result : Outcome) → IsWhole v
-    → v.stores.pending ≡ None → PromotesHere v k call op gather ask b
-    → PutsRec v k None (Some (record { state = b; dirty = false; mtime = moment })) o s result
+    (old : Option TierRec) (moment : ℕ) (o : Option (List ℕ)) (s : StoreView) (result : Outcome)
+    → IsWhole v → v.stores.pending ≡ None → PromotesHere v k call op gather ask b
+    → PutsRec v k old (Some (record { state = b; dirty = false; mtime = moment })) o s result
     → Keeps as_it_is None v
-    (put_locally k (Some op) None (Some (record { state = b; dirty = false; mtime = moment })) s
+    (put_locally k (Some op) old (Some (record { state = b; dirty = false; mtime = moment })) s
     result v)
 
 -- it ends with the act of its request, in one commit
-abbrev pub acted_promoting : (op : ℕ) → Option First → Act → NameState → (moment : ℕ) → StoreView
-    → Outcome → GroupView → GroupView
-acted_promoting op first a t moment s (Ok made) v =
+abbrev pub acted_promoting : (op : ℕ) → Option First → Act → Option TierRec → NameState
+    → (moment : ℕ) → StoreView → Outcome → GroupView → GroupView
+acted_promoting op first a old t moment s (Ok made) v =
     record (freed a.req.name (Some op) (with_cache s None v)) {
       log = acted_log first a v.log;
-      agent = resummed None (Some (acted_record t moment)) v.agent;
+      agent = resummed old (Some (acted_record t moment)) v.agent;
     }
-acted_promoting op first a t moment s (Err Disk) v =
+acted_promoting op first a old t moment s (Err Disk) v =
     freed a.req.name (Some op) (with_cache s (Some (Pending.Act Cache first a t.seq)) v)
-acted_promoting op first a t moment s (Err (BadImage at)) v = with_cache s None v
-acted_promoting op first a t moment s (Err (NoSpace used need limit)) v = with_cache s None v
-acted_promoting op first a t moment s (Err (Worn limit)) v = with_cache s None v
-acted_promoting op first a t moment s (Err NoMemory) v = with_cache s None v
+acted_promoting op first a old t moment s (Err (BadImage at)) v = with_cache s None v
+acted_promoting op first a old t moment s (Err (NoSpace used need limit)) v = with_cache s None v
+acted_promoting op first a old t moment s (Err (Worn limit)) v = with_cache s None v
+acted_promoting op first a old t moment s (Err NoMemory) v = with_cache s None v
 
 abbrev pub PromotingActsHereKeeps : Type 0
 PromotingActsHereKeeps =
     (v : GroupView) (call line : ℕ) (q : Req) (waiter op : ℕ) (gather : List Chunk) (ask : Ask)
-    (b t : NameState) (answer : Reply) (first : Option First) (moment : ℕ) (o : Option (List ℕ))
-    (s : StoreView) (result : Outcome) → IsWhole v → v.stores.pending ≡ None
-    → PromotesHere v q.name waiter op gather ask b → ActsOn v call line q b t answer first
-    → PutsRec v q.name None (Some (acted_record t moment)) o s result
+    (b t : NameState) (answer : Reply) (first : Option First) (old : Option TierRec) (moment : ℕ)
+    (o : Option (List ℕ)) (s : StoreView) (result : Outcome) → IsWhole v
+    → v.stores.pending ≡ None → PromotesHere v q.name waiter op gather ask b
+    → ActsOn v call line q b t answer first
+    → PutsRec v q.name old (Some (acted_record t moment)) o s result
     → Keeps (with_req q) None v
-    (acted_promoting op first (record { call = call; line = line; req = q; reply = answer }) t moment
-    s result v)
+    (acted_promoting op first (record { call = call; line = line; req = q; reply = answer }) old t
+    moment s result v)
 
 -- ---- what an answer behind them rests on
 

@@ -1,5 +1,5 @@
 -- A message reaches the base: what each outcome makes of the group.
-use Rattle.std.specs.Prelude.{◌≡◌, ◌≢◌, ◌⊎◌, ◌<◌, ℕ, ◌+◌, Bool, true, false, List, Option, Some, None, Ok}
+use Rattle.std.specs.Prelude.{◌≡◌, ◌⊎◌, ◌<◌, ℕ, ◌+◌, Bool, true, false, List, ◌∷◌, Option, Some, None, Ok}
 use Rattle.obj_model.specs.Names.{name_fault}
 use Rattle.obj_model.specs.declared.change.Change.{Change}
 use Rattle.obj_model.specs.declared.change.Pool.TheVariants.{Base}
@@ -25,7 +25,7 @@ use Rattle.tier_types.specs.Serving.{Served, epoch_in, name_in, opid_in, served}
 use Rattle.tier_view.specs.Delivers.{ActsThere, CommitsThere, acted_there, replied_now, with_base}
 use Rattle.tier_view.specs.Laws.{Keeps}
 use Rattle.tier_view.specs.Stores.{Pending}
-use Rattle.tier_view.specs.Traffic.{Owner, Sent}
+use Rattle.tier_view.specs.Traffic.{Owner, Replied, Sent, Traffic}
 use Rattle.tier_view.specs.Views.{GroupView, calls_in, joined}
 use Rattle.tier_view.specs.Whole.{IsWhole}
 
@@ -254,3 +254,34 @@ abbrev pub DeliveringKeeps : Type 0
 DeliveringKeeps =
     (v w : GroupView) (m : Sent) (told : Option BaseReply) → IsWhole v → v.stores.pending ≡ None
     → Delivers m told v w → Keeps (act_of m.message) None v w
+
+-- ---- what stays
+
+-- the replies, with one to this message more where one was told
+abbrev pub replies_with : (number : ℕ) → Option BaseReply → Traffic → List Replied
+replies_with number None t = t.replies
+replies_with number (Some reply) t =
+    record { number = t.next_reply; answers = number; reply = reply } ∷ t.replies
+
+-- A message that reached the base is on the wire still, and one reply to it came, or none. No work
+-- comes or goes, no call is entered or ends, nothing is answered, and the cache is as it was.
+pub record LeavesRest (m : Sent) (told : Option BaseReply) (v w : GroupView) : Type 0 where
+  pub messages : w.traffic.messages ≡ v.traffic.messages
+  pub replies : w.traffic.replies ≡ replies_with m.number told v.traffic
+  pub flights : w.traffic.flights ≡ v.traffic.flights
+  pub calls : w.calls ≡ v.calls
+  pub answers : w.log.answers ≡ v.log.answers
+  pub cache : w.stores.cache ≡ v.stores.cache
+  pub agent : w.agent ≡ v.agent
+
+abbrev pub DeliveringLeavesRest : Type 0
+DeliveringLeavesRest =
+    (v w : GroupView) (m : Sent) (told : Option BaseReply) → Delivers m told v w
+    → LeavesRest m told v w
+
+-- a Write that acts is not answered alone
+abbrev pub ActsAreNotAnswersAlone : Type 0
+ActsAreNotAnswersAlone =
+    (v : GroupView) (m : Sent) (b t : NameState) (op : ℕ) (r : Req) (answer : Reply)
+    (s : StoreView) → OnlyAnswers v m b s
+    → m.message ≡ BaseMsg.Write v.standing.base_epoch op r → act b r ≡ Fresh t answer → ⊥

@@ -32,9 +32,9 @@ pub use parts::{
     Awaited, Begun, Entry, FirstBusy, Flown, KeptFence, Noted, Owner, Pending, Replied, Sent,
 };
 pub use serves::{
-    actless_keeps, answering_there_keeps, delivering_keeps, failing_there_keeps,
-    lacking_there_keeps, leaving_base_keeps, owners_may_act, straying_there_keeps,
-    taking_there_keeps,
+    actless_keeps, acts_are_not_answers_alone, answering_there_keeps, delivering_keeps,
+    delivering_leaves_rest, failing_there_keeps, lacking_there_keeps, leaving_base_keeps,
+    owners_may_act, straying_there_keeps, taking_there_keeps,
 };
 pub use slice::{
     beginning_writes_keeps, delivering_acts_keeps, opening_calls_keeps, sending_writes_keeps,

@@ -1,5 +1,5 @@
 //! Messages that reach the base.
-ghost use Rattle.tier_view.specs.Serves.{ActlessKeeps, AnsweringThereKeeps, DeliveringKeeps, FailingThereKeeps, LackingThereKeeps, LeavingBaseKeeps, OwnersMayAct, StrayingThereKeeps, TakingThereKeeps};
+ghost use Rattle.tier_view.specs.Serves.{ActlessKeeps, ActsAreNotAnswersAlone, AnsweringThereKeeps, DeliveringKeeps, DeliveringLeavesRest, FailingThereKeeps, LackingThereKeeps, LeavingBaseKeeps, OwnersMayAct, StrayingThereKeeps, TakingThereKeeps};
 
 /// A message that the base only answers: one reply more, and the message stays on the wire.
 pub fn answering_there_keeps()
@@ -44,4 +44,14 @@ pub fn actless_keeps()
 /// Whatever comes of a message.
 pub fn delivering_keeps()
     ensures { DeliveringKeeps }
+{}
+
+/// A message is on the wire still, and one reply came to it, or none; all else is as it was.
+pub fn delivering_leaves_rest()
+    ensures { DeliveringLeavesRest }
+{}
+
+/// A Write that acts is not answered alone.
+pub fn acts_are_not_answers_alone()
+    ensures { ActsAreNotAnswersAlone }
 {}
