@@ -12,24 +12,29 @@ use Rattle.store_face.specs.Calls.{Among}
 use Rattle.store_face.specs.Views.{StoreView}
 use Rattle.tier_join.specs.Group.{EpochIsNext, Memory, TwoMaps, View, AreLeft, store_in, tier_of, with_epoch}
 use Rattle.tier_join.specs.Promises.{Promises}
-use Rattle.tier_join.specs.Steps.{Has, IsAtEpoch, ReadAgain, with_doubt}
+use Rattle.tier_join.specs.Steps.{Has, IsAtEpoch, ReadAgain, Rests, with_doubt}
 use Rattle.tier_join.specs.declared.doubt.Doubt.{Doubt}
 use Rattle.tier_join.proofs.Reopening.{opening_promises}
+use Rattle.tier_join.proofs.Rests.{first_rests}
 use Rattle.tier_owners.proofs.Quiets.{counting_keeps}
 use Rattle.tier_protocol.specs.Owners.{Ledger}
 use Rattle.tier_protocol.specs.Tiers.{Phase, Tier}
 use Rattle.tier_protocol.proofs.Memory.{free_unless_up}
 use Rattle.tier_protocol.proofs.Steps.{counting}
+use Rattle.tier_view.specs.Grows.{Grows, OneCommit, in_base, in_cache}
 use Rattle.tier_view.specs.Laws.{Keeps}
 use Rattle.tier_view.specs.Settles.{settled, settled_with}
 use Rattle.tier_view.specs.Standing.{Standing}
-use Rattle.tier_view.specs.Starts.{ComesTo, IsSettledBy, OpeningStoresKeeps, fails, opened_anew, opens, pool_in, raised_in, settled_fenced, settled_raised, settles, unopened}
+use Rattle.tier_view.specs.Starts.{ComesTo, IsSettledBy, OpeningStoresKeeps, fails, halted, halts, opened_anew, opens, pool_in, raised_in, settled_fenced, settled_raised, settles, unopened, with_base_stopped}
+use Rattle.tier_view.specs.Stops.{with_cache_stopped}
 use Rattle.tier_view.specs.Stores.{Pending, Stores, doubt_in}
 use Rattle.tier_view.specs.Tables.{SoundFlights}
 use Rattle.tier_view.specs.Views.{GroupView, joined, joined_of, ledger_in, memory_of}
 use Rattle.tier_view.specs.Whole.{AreSums, IsWhole, SoundStops}
 use Rattle.tier_view.specs.Worlds.{IsOwned, IsOwnedBy, IsOwnedWith}
 use Rattle.tier_view.proofs.Settling.{settling_acts_keeps}
+use Rattle.tier_view.proofs.Stopping.{stopping_cache_keeps}
+use Rattle.tier_view.proofs.StartingRests.{stopping_base_keeps}
 use Rattle.tier_view.proofs.StartingStores as to
 use Rattle.tier_view.proofs.StartingStores.{StoreStep, base_flag, cache_flag, changed, put_in, stores_keep}
 
@@ -110,6 +115,47 @@ module _ (pool : Pool) (v : GroupView) (s : StoreView) (h : IsWhole v) (among : 
       stops = stops;
       summed = summed;
     })
+
+-- ---- the pool counts as stopped from then on
+
+-- a pool is stopped, and then its opening fails
+module _ (v u : GroupView) (pool : Pool) (s : StoreView) (g : Grows (with_doubt (joined v).doubt) None v u) (stores : Rests (joined v) (joined u)) (acts : (joined u).memory.acts ≡ (joined v).memory.acts)
+    (opened : Grows (with_doubt (joined u).doubt) None u (unopened pool s u)) where
+  halting_grows : OneCommit v.stores (unopened pool s u).stores → v.stores.cache.faults ≤ (unopened pool s u).stores.cache.faults → v.stores.base.faults ≤ (unopened pool s u).stores.base.faults
+      → Grows (with_doubt (joined u).doubt) None v (unopened pool s u)
+  halting_grows commit cache_faults base_faults = record {
+    pools = first_rests (with_doubt (joined u).doubt) (with_doubt (joined v).doubt) (joined v) (joined u) (joined (unopened pool s u)) acts stores g.pools opened.pools;
+    began = λ start told b. opened.began start (g.pools.tell told) (g.began start told b);
+    log = g.log;
+    one_answer = g.one_answer;
+    calls = g.calls;
+    flown = g.flown;
+    commit = commit;
+    epoch = g.epoch;
+    cache_faults = cache_faults;
+    base_faults = base_faults;
+    share = g.share;
+    values = g.values;
+  }
+
+cache_halts : (v : GroupView) (s : StoreView) → IsWhole v → Among v.stores.cache s → v.stores.cache.faults ≤ s.faults → Keeps (with_doubt (joined v).doubt) None v (halted Cache s v)
+cache_halts v s h among later =
+    let first = stopping_cache_keeps v h in
+    let u : GroupView = with_cache_stopped v in
+    let second = unopened_keeps Cache u s first.0 among later (λ k. absurd (true≢false k.runs)) in
+    (second.0, halting_grows v u Cache s first.1 (record { cache = refl; base = refl; doubt = refl }) refl second.1 (in_cache (inr among) refl) later (omega arith))
+
+base_halts : (v : GroupView) (s : StoreView) → IsWhole v → Among v.stores.base s → v.stores.base.faults ≤ s.faults → Keeps (with_doubt (joined v).doubt) None v (halted Base s v)
+base_halts v s h among later =
+    let first = stopping_base_keeps v h in
+    let u : GroupView = with_base_stopped v in
+    let second = unopened_keeps Base u s first.0 among later (λ k. first.0.totals (record { live = k.live; runs = k.runs; sure = k.sure })) in
+    (second.0, halting_grows v u Base s first.1 (record { cache = refl; base = refl; doubt = refl }) refl second.1 (in_base refl (inr among)) (omega arith) later)
+
+halting_keeps : (pool : Pool) (v : GroupView) (s : StoreView) → IsWhole v → Among (store_in pool (joined v)) s → (store_in pool (joined v)).faults ≤ s.faults
+    → Keeps (with_doubt (joined v).doubt) None v (halted pool s v)
+halting_keeps Cache v s h among later = cache_halts v s h among later
+halting_keeps Base v s h among later = base_halts v s h among later
 
 -- what was in doubt is not there, or is the same to memory
 module _ (pool : Pool) (v : GroupView) (s : StoreView) (h : IsWhole v) (among : Among (store_in pool (joined v)) s) (later : (store_in pool (joined v)).faults ≤ s.faults)
@@ -256,6 +302,7 @@ module _ (v w : GroupView) (s : StoreView) (totals : Totals) (h : IsWhole v) (su
 
   coming : (pool : Pool) → Among (store_in pool (joined v)) s → (store_in pool (joined v)).faults ≤ s.faults → ComesTo pool s totals v w → Keeps (with_doubt (joined v).doubt) None v w
   coming pool among later (fails same) = became (unopened pool s v) same (unopened_keeps pool v s h among later)
+  coming pool among later (halts same) = became (halted pool s v) same (λ sums. halting_keeps pool v s h among later)
   coming pool among later (opens elsewhere same) = became (opened_anew pool s totals v) same (opened_keeps pool v s h among later totals)
   coming pool among later (settles p is of by) =
       settling p is (subst (λ q. Among (store_in q (joined v)) s) (sym of) among) (subst (λ q. (store_in q (joined v)).faults ≤ s.faults) (sym of) later) by

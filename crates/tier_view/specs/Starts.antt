@@ -23,6 +23,7 @@ use Rattle.tier_view.specs.Settles.{settled, settled_with}
 use Rattle.tier_view.specs.Standing.{Standing}
 use Rattle.tier_view.specs.Steps.{sent_now}
 use Rattle.tier_view.specs.Locals.{with_cache}
+use Rattle.tier_view.specs.Stops.{with_cache_stopped}
 use Rattle.tier_view.specs.Stores.{Pending, Stores}
 use Rattle.tier_view.specs.Traffic.{Replied}
 use Rattle.tier_view.specs.Views.{GroupView, joined}
@@ -97,6 +98,12 @@ placed Base s x = record x { base = s }
 abbrev pub unopened : Pool → StoreView → GroupView → GroupView
 unopened pool s v = record v { stores = placed pool s v.stores }
 
+-- It failed, and the pool counts as stopped from then on. So may a base whose epoch is neither the
+-- one that is kept of it nor the one in doubt, and a cache whose sums were not taken.
+abbrev pub halted : Pool → StoreView → GroupView → GroupView
+halted Cache s v = unopened Cache s (with_cache_stopped v)
+halted Base s v = unopened Base s (with_base_stopped v)
+
 -- this store in a pool's place, which runs again; what is in doubt stays
 abbrev pub running : Pool → StoreView → Stores → Stores
 running Cache s x = record x { cache = s; cache_stopped = false }
@@ -155,6 +162,7 @@ IsSettledBy (Pending.Epoch Base e) s totals old new =
 pub data ComesTo (pool : Pool) (s : StoreView) (totals : Totals) (old new : GroupView) : Type 0
   where
     fails : new ≡ unopened pool s old → ComesTo pool s totals old new
+    halts : new ≡ halted pool s old → ComesTo pool s totals old new
     opens : IsElsewhere pool old.stores.pending → new ≡ opened_anew pool s totals old
         → ComesTo pool s totals old new
     settles : (p : Pending) → old.stores.pending ≡ Some p → pool_in p ≡ pool
