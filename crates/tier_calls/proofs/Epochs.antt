@@ -4,7 +4,7 @@ use Rattle.std.specs.List.{AllByRecursion}
 use Rattle.tier_view.specs.declared.parts.Flown.{Flown}
 use Rattle.tier_view.specs.Changes.{gone_in}
 use Rattle.tier_view.specs.Stops.{gone_at, gone_by}
-use Rattle.tier_calls.specs.Turns.{AreByEpoch, AreInTurn, HasGone, HasNoPlace}
+use Rattle.tier_calls.specs.Turns.{AreByEpoch, HasGone, HasNoPlace}
 use Rattle.tier_calls.proofs.Found.{changed_at, changed_nowhere, turn_map, turn_push}
 
 abbrev opid_of : Flown → ℕ

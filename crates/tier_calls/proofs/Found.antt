@@ -1,5 +1,5 @@
 -- Elements that are in turn, found and changed by their place.
-use Rattle.std.proofs.Common.{◌≡◌, ◌≢◌, ℕ, zero, suc, ◌==◌, ◌+◌, ◌<◌, ◌≤◌, cond, true, false, inl, inr, List, [], ◌∷◌, ◌++◌, length, map, Option, Some, None, refl, sym, ap, subst, ◌∙◌, arith, eq-eqb, ne_eqb, set, get_or}
+use Rattle.std.proofs.Common.{◌≡◌, ℕ, zero, suc, ◌==◌, ◌+◌, ◌<◌, ◌≤◌, cond, true, false, inl, inr, List, [], ◌∷◌, ◌++◌, length, map, Some, None, refl, sym, ap, ◌∙◌, arith, eq-eqb, ne_eqb, set, get_or}
 use Rattle.std.specs.List.{find}
 use Rattle.tier_calls.specs.Turns.{AreInTurn, HasNoPlace}
 

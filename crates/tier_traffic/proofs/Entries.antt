@@ -1,5 +1,5 @@
 -- A map's entries, and the list that is made of them: found, taken out and put.
-use Rattle.std.proofs.Common.{◌≡◌, ℕ, ◌==◌, ◌<◌, Bool, cond, not, true, false, T, List, [], ◌∷◌, map, filter, Option, Some, None, find, refl, sym, ap, ap₂, subst, ◌∙◌, arith, eq-eqb, ne_eqb, option_map, Ordering, Less, Equal, Greater, nat_cmp, is_eq, bytes_eq}
+use Rattle.std.proofs.Common.{◌≡◌, ℕ, ◌==◌, ◌<◌, Bool, cond, not, true, false, List, [], ◌∷◌, map, filter, Option, Some, None, find, refl, sym, ap, ap₂, subst, ◌∙◌, arith, eq-eqb, ne_eqb, option_map, Ordering, Less, Equal, Greater, nat_cmp, is_eq}
 use Rattle.std.specs.BTreeMap.{insert_entry, is_at}
 use Rattle.std.specs.Cmp.{IsTotalOrder, eq_by_cmp_equiv}
 use Rattle.std.specs.List.{AllByRecursion, IsDistinct}
@@ -70,13 +70,13 @@ module _ {K V X : Type 0} (see : K × V → X) (key : X → K) where
     put_in [] h = refl
     put_in (e ∷ es) h =
         elim (R k e.0) as (λ r. R k e.0 ≡ r → map see (match_ordering r ((k, v) ∷ e ∷ es) ((e.0, v) ∷ es) (e ∷ insert_entry R es k v))
-            ≡ match_ordering r (see (k, v) ∷ see e ∷ map see es) (see (k, v) ∷ map see es) (see e ∷ placed (λ x y. R (key x) (key y)) (see (k, v)) (map see es))) [
+        ≡ match_ordering r (see (k, v) ∷ see e ∷ map see es) (see (k, v) ∷ map see es) (see e ∷ placed (λ x y. R (key x) (key y)) (see (k, v)) (map see es))) [
           | Less ↦ λ _. refl
           | Equal ↦ λ t. ap (λ (j : K). see (j, v) ∷ map see es) (sym (tied k e.0 t))
           | Greater ↦ λ _. ap (λ xs. see e ∷ xs) (put_in es h.1)
         ] refl
         ∙ ap (λ r. match_ordering r (see (k, v) ∷ see e ∷ map see es) (see (k, v) ∷ map see es) (see e ∷ placed (λ x y. R (key x) (key y)) (see (k, v)) (map see es)))
-            (ap₂ R (sym is) (sym h.0))
+        (ap₂ R (sym is) (sym h.0))
 
     pub keyed_put : (es : List (K × V)) → AreKeyed es → AreKeyed (insert_entry R es k v)
     keyed_put [] h = (is, tt)

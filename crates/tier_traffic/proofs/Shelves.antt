@@ -1,5 +1,5 @@
 -- Places under falling numbers, each with a value, and one more for the next value.
-use Rattle.std.proofs.Common.{◌≡◌, ◌≢◌, ℕ, suc, ◌==◌, ◌+◌, ◌<◌, ◌≤◌, Bool, cond, not, true, false, true≢false, T, List, [], ◌∷◌, filter, Option, Some, None, IsSome, is_some, refl, sym, ap, subst, ◌∙◌, arith, eq-eqb, ne_eqb, eqb-true, Ordering, Less, Equal, Greater, nat_cmp, is_eq}
+use Rattle.std.proofs.Common.{◌≡◌, ◌≢◌, ℕ, ◌==◌, ◌+◌, ◌<◌, ◌≤◌, Bool, cond, not, true, false, true≢false, List, [], ◌∷◌, filter, Option, Some, None, IsSome, is_some, refl, sym, ap, subst, ◌∙◌, arith, eq-eqb, ne_eqb, eqb-true, Ordering, Less, Equal, Greater, nat_cmp, is_eq}
 use Rattle.std.specs.BTreeMap.{insert_entry, is_at}
 use Rattle.std.specs.Map.{lookup, remove_entry}
 use Rattle.std.specs.Option.{option_flatten}
@@ -7,7 +7,6 @@ use Rattle.std.specs.Ordering.{MatchOrdering, match_ordering}
 use Rattle.std.specs.declared.cmp.Reverse.{Reverse}
 use Rattle.std.proofs.lemmas.Cmp.{ranked}
 use Rattle.tier_traffic.specs.Numbered.{IsFull, IsShelf, Shelf, held_in, is_under, with_value}
-use Rattle.tier_traffic.proofs.Entries.{nat_test}
 
 -- the order of places: the higher number comes first
 abbrev falling : Reverse ℕ → Reverse ℕ → Ordering

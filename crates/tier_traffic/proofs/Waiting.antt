@@ -1,5 +1,5 @@
 -- The lists that are made of maps by call and by name.
-use Rattle.std.proofs.Common.{◌≡◌, ℕ, List, map, Result, Ok, Err, OnOk, OnErr, refl, sym, subst, bytes_eq, ◌==◌, nat_cmp}
+use Rattle.std.proofs.Common.{◌≡◌, ℕ, List, map, Result, Ok, Err, OnOk, OnErr, refl, sym, bytes_eq, ◌==◌, nat_cmp}
 use Rattle.std.specs.BTreeMap.{insert_entry, is_at}
 use Rattle.std.specs.Cmp.{nat_cmp_total}
 use Rattle.std.specs.Cmp.Lexicographic.{nat_list_cmp_total}

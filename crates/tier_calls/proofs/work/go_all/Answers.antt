@@ -1,4 +1,4 @@
-use Rattle.std.proofs.Common.{ap, arith, refl, rules, set, sym, ◌∙◌, ◌≡◌, ◌+◌, ◌++◌, ◌<◌, drop, get_or, length, map, suc, take}
+use Rattle.std.proofs.Common.{ap, arith, refl, rules, set, ◌∙◌, ◌≡◌, ◌+◌, ◌++◌, ◌<◌, drop, get_or, length, map, suc, take}
 use Rattle.tier_view.specs.Stops.{gone_at}
 use Rattle.tier_calls.proofs.Epochs.{goes_first, goes_on}
 use Rattle.tier_calls.proofs.work.go_all.Goals as goal
@@ -16,12 +16,11 @@ loop-place-preserved c =
     let count : c.len-place-end.result ≡ length all = search (rules, c.len-place-end.ensures) in
     let there : i < length all = omega (arith, count, c.loop-place-test.true) in
     let next : suc i ≡ i + 1 = omega arith in
-    let same = c.loop-place.invariant.0 in
-    (
+    let same = c.loop-place.invariant.0 in (
       ap (set c.loop-place.flown.items i) c.go.ensures
-      ∙ ap (λ fs. set fs i (gone_at now x)) same
-      ∙ goes_on now all i x there (c.index_mut.ensures.value ∙ ap (λ fs. get_or fs i x) same)
-      ∙ ap (λ n. map (gone_at now) (take n all) ++ drop n all) next,
+          ∙ ap (λ fs. set fs i (gone_at now x)) same
+          ∙ goes_on now all i x there (c.index_mut.ensures.value ∙ ap (λ fs. get_or fs i x) same)
+          ∙ ap (λ n. map (gone_at now) (take n all) ++ drop n all) next,
       c.loop-place.invariant.1,
       c.loop-place.invariant.2,
     )

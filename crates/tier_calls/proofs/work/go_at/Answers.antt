@@ -17,7 +17,7 @@ returns-in-Some-clause-gone c =
     subst (λ n. c.in-Some.place < n - c.args.earlier) count c.in-Some.ensures.1 in
     ap (set fs (c.args.earlier + c.in-Some.place)) c.go.ensures
     ∙ goes_read c.args.now c.args.earlier c.in-Some.place c.args.opid c.index_mut.result.now fs
-        c.in-Some.ensures.0 (omega (arith, below)) c.index_mut.ensures.value c.requires
+    c.in-Some.ensures.0 (omega (arith, below)) c.index_mut.ensures.value c.requires
 
 pub returns-in_default-clause-gone : goal.returns-in_default-clause-gone
 returns-in_default-clause-gone c =

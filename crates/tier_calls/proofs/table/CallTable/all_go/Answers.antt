@@ -7,12 +7,11 @@ use Rattle.tier_calls.proofs.table.CallTable.all_go.Goals as goal
 pub invariant_of-self : goal.invariant_of-self
 invariant_of-self c =
     let old : vec_len c.self.inside.flown + c.self.inside.room
-        ≤ vec_capacity c.self.inside.flown = c.self.invariant.2 in
-    (
+    ≤ vec_capacity c.self.inside.flown = c.self.invariant.2 in (
       c.self.invariant.0,
       subst (AreByEpoch c.self.inside.first) (sym c.go_all.ensures.gone)
-      (by_epoch_all c.args.now c.self.inside.first c.self.inside.flown.items
-      c.self.invariant.1),
+          (by_epoch_all c.args.now c.self.inside.first c.self.inside.flown.items
+          c.self.invariant.1),
       omega (arith, old, c.go_all.ensures.count, c.go_all.ensures.room),
     )
 

@@ -6,8 +6,8 @@ use Rattle.tier_calls.proofs.table.CallTable.end.Goals as goal
 pub invariant_of-self : goal.invariant_of-self
 invariant_of-self c = (
   subst (AreInTurn (λ e. e.number) 1) (sym c.end.ensures.ended)
-  (turn_changed (λ e. e.number) (λ e. record e { ended = true }) c.args.number (λ e. refl)
-  c.self.inside.entries.items 1 c.self.invariant.0),
+      (turn_changed (λ e. e.number) (λ e. record e { ended = true }) c.args.number (λ e. refl)
+      c.self.inside.entries.items 1 c.self.invariant.0),
   c.self.invariant.1,
   c.self.invariant.2,
 )

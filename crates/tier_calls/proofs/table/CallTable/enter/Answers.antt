@@ -1,4 +1,4 @@
-use Rattle.std.proofs.Common.{ap, arith, rules, subst, sym, ◌∙◌, ◌≡◌, ◌+◌, length}
+use Rattle.std.proofs.Common.{arith, rules, subst, sym, ◌≡◌, length}
 use Rattle.tier_calls.specs.Turns.{AreInTurn}
 use Rattle.tier_calls.proofs.Found.{turn_push}
 use Rattle.tier_calls.proofs.table.CallTable.enter.Goals as goal
@@ -6,10 +6,9 @@ use Rattle.tier_calls.proofs.table.CallTable.enter.Goals as goal
 pub invariant_of-self-2 : goal.invariant_of-self-2
 invariant_of-self-2 c =
     let es = c.self.inside.entries.items in
-    let count : c.len.result ≡ length es = search (rules, c.len.ensures) in
-    (
+    let count : c.len.result ≡ length es = search (rules, c.len.ensures) in (
       subst (AreInTurn (λ e. e.number) 1) (sym c.in_ok-push.ensures.items)
-      (turn_push (λ e. e.number) es _ 1 (omega (arith, count)) c.self.invariant.0),
+          (turn_push (λ e. e.number) es _ 1 (omega (arith, count)) c.self.invariant.0),
       c.self.invariant.1,
       c.self.invariant.2,
     )

@@ -12,11 +12,10 @@ invariant_of-self c =
     let room : 1 ≤ c.self.inside.room =
     subst (λ (t : TableView). 1 ≤ t.spare) (sym c.self.view_is) c.requires.room in
     let old : vec_len c.self.inside.flown + c.self.inside.room
-        ≤ vec_capacity c.self.inside.flown = c.self.invariant.2 in
-    (
+    ≤ vec_capacity c.self.inside.flown = c.self.invariant.2 in (
       c.self.invariant.0,
       subst (AreByEpoch c.self.inside.first) (sym c.push_reserved.ensures.items)
-      (by_epoch_push c.self.inside.first c.self.inside.flown.items c.args.flown next
-      c.self.invariant.1),
+          (by_epoch_push c.self.inside.first c.self.inside.flown.items c.args.flown next
+          c.self.invariant.1),
       omega (arith, old, room, c.push_reserved.ensures.len, c.push_reserved.ensures.capacity),
     )

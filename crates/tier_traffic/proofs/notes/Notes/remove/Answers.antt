@@ -8,7 +8,7 @@ pub invariant_of-self : goal.invariant_of-self
 invariant_of-self c = (
   c.take_out.ensures.ordered,
   subst AreOfCalls (sym c.take_out.ensures.taken)
-  (of_calls_taken c.args.call c.self.inside.inner.entries c.self.invariant.1),
+      (of_calls_taken c.args.call c.self.inside.inner.entries c.self.invariant.1),
 )
 
 pub returns : goal.returns

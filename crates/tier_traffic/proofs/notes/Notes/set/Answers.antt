@@ -8,9 +8,9 @@ pub invariant_of-self : goal.invariant_of-self
 invariant_of-self c = (
   c.put.ensures.ordered,
   either_outcome c.put.result
-  (λ is. subst AreOfCalls (sym is)
-  (of_calls_put c.args.noted c.self.inside.inner.entries c.self.invariant.1))
-  (λ is. subst AreOfCalls (sym is) c.self.invariant.1) c.put.ensures.ok c.put.ensures.err,
+      (λ is. subst AreOfCalls (sym is)
+      (of_calls_put c.args.noted c.self.inside.inner.entries c.self.invariant.1))
+      (λ is. subst AreOfCalls (sym is) c.self.invariant.1) c.put.ensures.ok c.put.ensures.err,
 )
 
 pub returns-clause-ok : goal.returns-clause-ok

@@ -6,11 +6,10 @@ use Rattle.tier_traffic.proofs.numbered.Numbered.remove.Goals as goal
 pub invariant_of-self : goal.invariant_of-self
 invariant_of-self g c =
     let ready = c.self.inside.ready in
-    let next = c.self.inside.next in
-    (
+    let next = c.self.inside.next in (
       subst (IsShelf ready next) (sym c.take_place.ensures)
-      (out_shelf ready next c.args.number c.self.inside.inner.entries c.if-number-self.true
-      c.self.invariant.0),
+          (out_shelf ready next c.args.number c.self.inside.inner.entries c.if-number-self.true
+          c.self.invariant.0),
       c.self.invariant.1,
     )
 
@@ -20,9 +19,9 @@ returns-then-number-self g c =
     let ready = c.self.inside.ready in
     let next = c.self.inside.next in
     ap (λ held. record { held = held; next = next; ready = ready })
-        (ap held_in c.take_place.ensures
-        ∙ out_seen ready next n c.self.inside.inner.entries c.if-number-self.true
-            c.self.invariant.0)
+    (ap held_in c.take_place.ensures
+    ∙ out_seen ready next n c.self.inside.inner.entries c.if-number-self.true
+    c.self.invariant.0)
     ∙ ap (λ (v : NumberedView g.row.V.Denot). record v {
       held = filter (λ e. not (e.0 == n)) v.held;
     }) c.self.view_is
@@ -34,8 +33,8 @@ returns-else-number-self g c =
     let next = c.self.inside.next in
     sym c.self.view_is
     ∙ ap (λ held. record { held = held; next = next; ready = ready })
-        (sym (none_there ready next n c.self.inside.inner.entries c.if-number-self.false
-        c.self.invariant.0))
+    (sym (none_there ready next n c.self.inside.inner.entries c.if-number-self.false
+    c.self.invariant.0))
     ∙ ap (λ (v : NumberedView g.row.V.Denot). record v {
       held = filter (λ e. not (e.0 == n)) v.held;
     }) c.self.view_is

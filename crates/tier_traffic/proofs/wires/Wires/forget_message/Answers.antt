@@ -10,7 +10,7 @@ use Rattle.tier_traffic.proofs.wires.Wires.forget_message.Goals as goal
 pub invariant_of-self : goal.invariant_of-self
 invariant_of-self c = (
   subst (AreUnder (λ s. s.number)) (sym (ap (λ (v : NumberedView Sent). v.held) c.remove.ensures))
-  (under_taken (λ s. s.number) c.args.number c.self.inside.messages.held c.self.invariant.0),
+      (under_taken (λ s. s.number) c.args.number c.self.inside.messages.held c.self.invariant.0),
   c.self.invariant.1,
 )
 

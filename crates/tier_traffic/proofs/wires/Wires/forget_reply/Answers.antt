@@ -11,7 +11,7 @@ pub invariant_of-self : goal.invariant_of-self
 invariant_of-self c = (
   c.self.invariant.0,
   subst (AreUnder (λ s. s.number)) (sym (ap (λ (v : NumberedView Replied). v.held) c.remove.ensures))
-  (under_taken (λ s. s.number) c.args.number c.self.inside.replies.held c.self.invariant.1),
+      (under_taken (λ s. s.number) c.args.number c.self.inside.replies.held c.self.invariant.1),
 )
 
 pub returns : goal.returns

@@ -8,5 +8,5 @@ pub returns : goal.returns
 returns c =
     c.get.ensures
     ∙ found_value (λ s. s.number) c.args.number c.self.inside.messages.held
-        c.self.invariant.0
+    c.self.invariant.0
     ∙ ap (λ (w : WiresView). sent_of w.traffic.messages c.args.number) c.self.view_is

@@ -8,5 +8,5 @@ pub returns : goal.returns
 returns c =
     c.get.ensures
     ∙ found_value (λ s. s.number) c.args.number c.self.inside.replies.held
-        c.self.invariant.1
+    c.self.invariant.1
     ∙ ap (λ (w : WiresView). replied_of w.traffic.replies c.args.number) c.self.view_is
