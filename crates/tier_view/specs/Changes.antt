@@ -8,12 +8,15 @@ use Rattle.tier_view.specs.Traffic.{Awaited, Noted, Traffic}
 
 -- the call of this number is over
 abbrev pub ended_in : (call : ℕ) → List Entry → List Entry
-ended_in call entries = map (λ e. if e.number == call then record e { ended = true } else e) entries
+ended_in call entries =
+    map {A = Entry} {B = Entry} (λ e. if e.number == call then record e { ended = true } else e)
+    entries
 
 -- the call of this number has taken over a write request
 abbrev pub adopted_in : (call : ℕ) → List Entry → List Entry
 adopted_in call entries =
-    map (λ e. if e.number == call then record e { adopted = true } else e) entries
+    map {A = Entry} {B = Entry} (λ e. if e.number == call then record e { adopted = true } else e)
+    entries
 
 -- ---- work that comes and goes
 
