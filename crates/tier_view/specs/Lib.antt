@@ -17,3 +17,5 @@ pub mod Laws
 pub mod Stops
 pub mod Changes
 pub mod Lies
+pub mod Answers
+pub mod Answered
