@@ -10,7 +10,7 @@ use Rattle.tier_join.specs.Group.{BothTell}
 use Rattle.tier_join.specs.Promises.{Promises}
 use Rattle.tier_join.specs.Steps.{Rests, with_doubt}
 use Rattle.tier_join.proofs.Rests.{first_rests, then_rests}
-use Rattle.tier_view.specs.Answers.{IsLoggedAt, KeepsQuietly, NoAnswer, NoMore, NoWork, Quiet, QuietIsStep, QuietLeadsStep, QuietsJoin, SameWork, StepsJoinQuiet, told}
+use Rattle.tier_view.specs.Answers.{IsLoggedAt, KeepsQuietly, LeavingIsQuiet, NoAnswer, NoMore, NoWork, Quiet, QuietIsStep, QuietLeadsStep, QuietsJoin, SameWork, StepsJoinQuiet, told}
 use Rattle.tier_view.specs.Calls.{Entry, Flown, entry_of}
 use Rattle.tier_view.specs.Grows.{AreEntered, AtMostOne, CallsGrow, Extends, Grows, HaveCome, IsComing, IsNew, IsNotOver, LogGrows, OneCommit, Remains, Stays, Wanted, WorkGrows, no_commit}
 use Rattle.tier_view.specs.Standing.{Standing}
@@ -22,7 +22,7 @@ use Rattle.tier_view.specs.Stores.{doubt_in}
 use Rattle.tier_view.specs.Tables.{goes_without}
 use Rattle.tier_view.proofs.Growth.{StaysFound, entry_stays}
 use Rattle.tier_view.proofs.Keeping.{all_append}
-use Rattle.tier_view.proofs.Resting.{remains_itself}
+use Rattle.tier_view.proofs.Resting.{extends_same, remains_itself, stays_itself}
 
 -- ---- lists
 
@@ -444,3 +444,28 @@ module _ (other : Store → Store) (wanted : Option Wanted) (u v w : GroupView) 
 
 pub quiet_leads_step : QuietLeadsStep
 quiet_leads_step = led_step
+
+-- ---- a step that leaves stores, history and calls
+
+pub leaving_is_quiet : LeavingIsQuiet
+leaving_is_quiet v w h l = (
+  h.0,
+  record {
+    pools = h.1.pools;
+    began = h.1.began;
+    stores = l.stores;
+    opening = ap (λ g. g.opening) l.log;
+    acts = ap (λ g. g.acts) l.log;
+    answer = None;
+    is_answer = ap (λ g. g.answers) l.log ∙ sym (append-nil v.log.answers);
+    ends = tt;
+    last = ap (λ c. c.last) l.calls;
+    entries = subst (λ c. Extends Stays NoMore v.calls.entries c.entries) (sym l.calls) (extends_same Stays NoMore stays_itself v.calls.entries refl);
+    flown = subst (λ c. Extends (Remains (length v.log.answers) (length w.log.answers)) NoMore v.calls.flown c.flown) (sym l.calls)
+        (extends_same (Remains (length v.log.answers) (length w.log.answers)) NoMore (remains_itself (length v.log.answers) (length w.log.answers)) v.calls.flown refl);
+    epoch = l.epoch;
+    opids = l.opids;
+    share = h.1.share;
+    values = h.1.values;
+  },
+)

@@ -1,6 +1,8 @@
 -- The own act of a call, under its number.
-use Rattle.std.proofs.Common.{◌≡◌, ◌≢◌, ◌≤◌, ◌<◌, ◌⊎◌, inl, inr, ℕ, zero, suc, ◌==◌, cond, Bool, true, false, List, [], ◌∷◌, take, slice_get, length, Option, Some, None, refl, sym, ap, subst, ◌∙◌, arith}
+use Rattle.std.proofs.Common.{◌≡◌, ◌≢◌, ◌≤◌, ◌<◌, ◌⊎◌, inl, inr, ℕ, zero, suc, ◌==◌, cond, Bool, true, false, List, [], ◌∷◌, take, map, slice_get, length, Option, Some, None, refl, sym, ap, subst, ◌∙◌, arith}
+use Rattle.std.specs.Prelude.{if◌then◌else◌}
 use Rattle.std.specs.List.{AllByRecursion}
+use Rattle.std.specs.Option.{option_map}
 use Rattle.std.proofs.lemmas.Bool.{cases_lt, eqb-true}
 use Rattle.obj_model.specs.declared.reply.Reply.{Reply}
 use Rattle.obj_model.specs.declared.reply.Reply.TheVariants as reply
@@ -13,9 +15,10 @@ use Rattle.tier_chron.specs.declared.asked.Asked.{Asked}
 use Rattle.tier_chron.specs.declared.asked.Asked.TheVariants.{Write}
 use Rattle.tier_chron.specs.declared.entries.Act.{Act}
 use Rattle.tier_chron.specs.declared.entries.Logged.{Logged}
-use Rattle.tier_view.specs.Answered.{OwnActsStand, own_answer}
+use Rattle.tier_protocol.specs.Owners.{number_of}
+use Rattle.tier_view.specs.Answered.{NumbersFindActs, OwnActsStand, own_answer}
 use Rattle.tier_view.specs.Calls.{Entry, call_in, entry_of}
-use Rattle.tier_view.specs.Views.{GroupView, calls_in}
+use Rattle.tier_view.specs.Views.{GroupView, act_in, calls_in}
 use Rattle.tier_view.specs.Whole.{IsWhole}
 use Rattle.tier_view.proofs.AnsweringFaults.{call_found, one_entry}
 
@@ -81,3 +84,23 @@ own_acts_stand v e l a h is at mine line answer =
           (subst (StandsBeside v.log.acts a.req l) (sym answer)
           (own_beside v.log.acts a.req l a.reply (at ∙ ap Some (own_is l a mine (one_line a.line l.line (sym asked.1 ∙ line)))))),
     )
+
+-- ---- acts by their numbers
+
+next_number : (b : Bool) (o : Option ℕ) (number : ℕ) → (if b then Some 1 else option_map suc o) ≡ Some number → ((b ≡ true) × (number ≡ 1)) ⊎ ((b ≡ false) × ((n : ℕ) × (o ≡ Some n) × (number ≡ suc n)))
+next_number true o number e = inl (refl, one_line number 1 (sym e))
+next_number false None number e = absurd (cc)
+next_number false (Some n) number e = inr (refl, (n, refl, one_line number (suc n) (sym e)))
+
+act_behind : (b : Act) (acts : List Act) (n : ℕ) (a : Act) → act_at acts n ≡ Some a → act_at (b ∷ acts) (suc n) ≡ Some a
+act_behind b acts zero a e = absurd (cc)
+act_behind b acts (suc n) a e = e
+
+pub numbers_find_acts : NumbersFindActs
+numbers_find_acts [] call number e = absurd (cc)
+numbers_find_acts (b ∷ acts) call number e = elim (next_number (b.call == call) (number_of call (map act_in acts)) number e) [
+  | inl here ↦ (b, subst (λ n. act_at (b ∷ acts) n ≡ Some b) (sym here.1) refl, eqb-true b.call call here.0)
+  | inr there ↦
+      let found = numbers_find_acts acts call there.1.0 there.1.1 in
+      (found.0, subst (λ n. act_at (b ∷ acts) n ≡ Some found.0) (sym there.1.2) (act_behind b acts there.1.0 found.0 found.1), found.2)
+]

@@ -45,7 +45,7 @@ use Rattle.tier_protocol.proofs.Owners.{landing_fits, one_asked, quiet_keeps}
 use Rattle.tier_protocol.proofs.Steps.{landing}
 use Rattle.tier_types.specs.Flights.{HasOpid}
 use Rattle.tier_types.specs.Serving.{lasting}
-use Rattle.tier_view.specs.Answered.{HasFaultCause, IsLookedAt, IsOfLanded, LandedCallsKeep, LandingWritesKeeps, Lands, LookedCallsKeep, is_own, kept_answer, landed_write, lasting_answer, looked_answer}
+use Rattle.tier_view.specs.Answered.{HasFaultCause, IsLookedAt, IsOfLanded, LandedActsFit, LandedCallsKeep, LandingWritesKeeps, Lands, LookedCallsKeep, is_own, kept_answer, landed_write, lasting_answer, looked_answer}
 use Rattle.obj_model.specs.declared.change.Pool.TheVariants.{Base, Cache}
 use Rattle.tier_view.specs.Grows.{Stays}
 use Rattle.tier_view.specs.Answers.{DropsWork, IsNotPending, KeepsQuietly, MayCloseBy, MayEndWith, NoMore, Quiet, ended_call, ended_calls, gone_some}
@@ -351,4 +351,32 @@ looked_calls_keep v k list r found client l left dropped h q d may now is =
             subst (TellsCall start v.log.acts l) (sym c) (subst (λ x. Tells start v.log.acts x l) (sym q.asked) tells);
         good = inr (readers_may_close_now v l.call h none);
       },
+    )
+
+-- ---- the owner's act fits what the base told
+
+act_there : (acts : List Act) (c : CallAct) → IsIn c (map act_in acts) → (x : Act) × IsIn x acts × (c ≡ act_in x)
+act_there [] c on = absurd on
+act_there (x ∷ acts) c (inl is) = (x, inl refl, is)
+act_there (x ∷ acts) c (inr on) = let k = act_there acts c on in (k.0, inr k.1, k.2)
+
+in_acts : (acts : List Act) (x : Act) → IsIn x acts → IsIn (act_in x) (map act_in acts)
+in_acts [] x on = absurd on
+in_acts (y ∷ acts) x (inl is) = inl (ap act_in is)
+in_acts (y ∷ acts) x (inr on) = inr (in_acts acts x on)
+
+pub landed_acts_fit : LandedActsFit
+landed_acts_fit start v k driver owner op r a tell b q =
+    let some = some_maps (joined v) tell in
+    let w : IsOwned start (joined v).memory (ledger_in v) some.0 = surely_owned start v some.0 q.settled (b.owners some.0 some.1) in
+    let t : Tier = tier_of start (joined v).memory w.spells.recs w.spells.base in
+    let lands : MayLand t k driver owner op r a = record { flight = q.flight; reply = q.reply } in
+    let fits = landing_fits t (ledger_in v) k driver owner op r a w.spells.sound w.owners lands in (
+      λ x on same. fits.0 (act_in x) (in_acts v.log.acts x on) same,
+      λ given fresh.
+          let its = fits.1 given fresh in
+          let x = act_there v.log.acts its.0 its.1 in
+          let mine : x.0.call ≡ owner = ap (λ c. c.call) (sym x.2) ∙ its.2 in
+          let told : acted.Again given ≡ acted.Again x.0.reply = sym (ap lasting fresh) ∙ (fits.0 (act_in x.0) (in_acts v.log.acts x.0 x.1) mine).1 in
+          (x.0, x.1, mine, one_reply given x.0.reply told),
     )

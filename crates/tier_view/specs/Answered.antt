@@ -1,5 +1,5 @@
 -- How calls are answered: by faults, by what holds them up, and by replies of the base.
-use Rattle.std.specs.Prelude.{◌+◌, ◌≡◌, ◌≢◌, ◌≤◌, ◌<◌, ◌⊎◌, ℕ, Bool, true, false, List, ◌∷◌, length, Option, Some, None}
+use Rattle.std.specs.Prelude.{map, ◌+◌, ◌≡◌, ◌≢◌, ◌≤◌, ◌<◌, ◌⊎◌, ℕ, Bool, true, false, List, ◌∷◌, length, Option, Some, None}
 use Rattle.std.specs.FinMap as fin
 use Rattle.std.specs.List.{AllByRecursion}
 use Rattle.obj_model.specs.declared.change.Pool.TheVariants.{Cache, Base}
@@ -7,8 +7,10 @@ use Rattle.obj_model.specs.declared.reply.Reply.{Reply}
 use Rattle.obj_model.specs.declared.reply.Reply.TheVariants as reply
 use Rattle.obj_model.specs.declared.req.Req.{Req}
 use Rattle.obj_model.specs.declared.tier.Kind.{Kind}
+use Rattle.obj_ops.specs.Stores.{Store}
 use Rattle.obj_ops.specs.declared.reading.Looked.{Looked}
 use Rattle.obj_ops.specs.declared.reading.Looked.TheVariants as looked
+use Rattle.obj_ops.specs.declared.request.Acted.TheVariants.{Again}
 use Rattle.tier_chron.specs.Calls.{call_of}
 use Rattle.tier_chron.specs.Laws.{MayLog}
 use Rattle.tier_chron.specs.Places.{act_at}
@@ -20,17 +22,21 @@ use Rattle.tier_chron.specs.declared.entries.Act.{Act}
 use Rattle.tier_chron.specs.declared.entries.Logged.{Logged}
 use Rattle.tier_flight.specs.Busy.{busy_at}
 use Rattle.tier_flight.specs.declared.busy.Want.{Want}
+use Rattle.tier_join.specs.Group.{BothTell}
 use Rattle.tier_join.specs.Steps.{HasRec}
+use Rattle.tier_protocol.specs.Owners.{number_of}
 use Rattle.tier_protocol.specs.Tiers.{BaseActed, BaseReply, Flight, Flights, Name, Phase, ReadFlight, TierRec, IsIn}
 use Rattle.tier_types.specs.Flights.{is_write}
+use Rattle.tier_types.specs.Serving.{lasting}
 use Rattle.tier_view.specs.Answers.{DropsWork, IsNotPending, KeepsQuietly, MayCloseNow, MayEndWith, NoAnswer, ended_call, ended_calls}
 use Rattle.tier_view.specs.Calls.{Entry, Flown, entry_of}
 use Rattle.tier_view.specs.Changes.{gone_in}
 use Rattle.tier_view.specs.Laws.{HasAsked}
 use Rattle.tier_view.specs.Tables.{IsStanding}
 use Rattle.tier_view.specs.Traffic.{Owner, replies_of}
-use Rattle.tier_view.specs.Views.{GroupView, asking_of, calls_in, joined}
+use Rattle.tier_view.specs.Views.{GroupView, act_in, asking_of, calls_in, joined}
 use Rattle.tier_view.specs.Whole.{AsksFor, IsFirstEpoch, IsWhole, faults_told}
+use Rattle.tier_view.specs.Worlds.{Began}
 
 -- ---- what may be logged
 
@@ -111,8 +117,8 @@ NewCallsHaveNoWork =
 -- a call that asked no write request
 abbrev pub ReadersMayCloseNow : Type 0
 ReadersMayCloseNow =
-    (v : GroupView) (call : ℕ) → IsWhole v → asking_of (call_of (calls_in v.calls.entries) call) ≡ None
-    → MayCloseNow v call
+    (v : GroupView) (call : ℕ) → IsWhole v
+    → asking_of (call_of (calls_in v.calls.entries) call) ≡ None → MayCloseNow v call
 
 -- a message is not this call's
 abbrev pub IsNotOf : ℕ → Option Owner → Type 0
@@ -187,6 +193,23 @@ OwnActsStand =
     → entry_of v.calls.entries l.call ≡ Some e → act_at v.log.acts l.place ≡ Some a
     → a.call ≡ l.call → e.line ≡ Some l.line → l.answer ≡ own_answer a.reply
     → (e.begin ≤ l.place) × Stands v.log.acts e.asked l
+
+-- the number of a call's act finds it
+abbrev pub NumbersFindActs : Type 0
+NumbersFindActs =
+    (acts : List Act) (call number : ℕ) → number_of call (map act_in acts) ≡ Some number
+    → (a : Act) × (act_at acts number ≡ Some a) × (a.call ≡ call)
+
+-- Where a write request landed and both stores tell: its owner's act, if there is one, is of this
+-- request and has the reply that the base told; and there is one where the base told that the
+-- request acted just now.
+abbrev pub LandedActsFit : Type 0
+LandedActsFit =
+    (start : Store) (v : GroupView) (k : Name) (driver : Option ℕ) (owner op : ℕ) (r : Req)
+    (a : BaseActed) → BothTell (joined v) → Began start v → Lands v k driver owner op r a
+    → ((x : Act) → IsIn x v.log.acts → x.call ≡ owner → (x.req ≡ r) × (lasting a ≡ Again x.reply))
+    × ((given : Reply) → a ≡ BaseActed.Fresh given
+    → (x : Act) × IsIn x v.log.acts × (x.call ≡ owner) × (x.reply ≡ given))
 
 -- The answer of a write request that landed: by its own act, a fault, or what the base told, at the
 -- present number of acts.

@@ -1,5 +1,5 @@
--- Quiet steps: what is left of a step once its store, its act and its new call or work are there; and
--- how calls are answered and end.
+-- Quiet steps: what is left of a step once its store, its act and its new call or work are there;
+-- and how calls are answered and end.
 use Rattle.std.specs.Prelude.{◌≡◌, ◌≢◌, ◌⊎◌, ◌==◌, if◌then◌else◌, ℕ, true, List, [], ◌∷◌, ◌++◌, length, Option, Some, None}
 use Rattle.std.specs.FinMap as fin
 use Rattle.obj_ops.specs.Stores.{Store}
@@ -44,9 +44,9 @@ abbrev pub IsLoggedAt : ℕ → Option Logged → Type 0
 IsLoggedAt acts None = Unit {0}
 IsLoggedAt acts (Some l) = l.end ≡ acts
 
--- What a quiet step may do: no store is touched, no doubt comes or goes, no act, no call and no work
--- comes; one answer may be logged; calls may end, or take over a write, work may go, and what is
--- between the pools, how far the group is started, and the agent may change.
+-- What a quiet step may do: no store is touched, no doubt comes or goes, no act, no call and no
+-- work comes; one answer may be logged; calls may end, or take over a write, work may go, and what
+-- is between the pools, how far the group is started, and the agent may change.
 pub record Quiet (old new : GroupView) : Type 0 where
   pub pools : Promises (with_doubt (joined old).doubt) (joined old) (joined new)
   pub began : (start : Store) → BothTell (joined old) → Began start old → Began start new
@@ -87,6 +87,20 @@ SameWork old new = new.calls.flown ≡ old.calls.flown
 abbrev pub QuietIsStep : Type 0
 QuietIsStep =
     (v w : GroupView) → KeepsQuietly v w → Keeps (with_doubt (joined v).doubt) None v w
+
+-- stores, history and calls are as they were, and no number of an operation is given out
+pub record LeavesAll (old new : GroupView) : Type 0 where
+  pub stores : new.stores ≡ old.stores
+  pub log : new.log ≡ old.log
+  pub calls : new.calls ≡ old.calls
+  pub epoch : new.standing.cache_epoch ≡ old.standing.cache_epoch
+  pub opids : new.standing.next_opid ≡ old.standing.next_opid
+
+-- a step that may come at any moment and leaves all these is quiet, as where a reply is forgotten
+abbrev pub LeavingIsQuiet : Type 0
+LeavingIsQuiet =
+    (v w : GroupView) → Keeps (with_doubt (joined v).doubt) None v w → LeavesAll v w
+    → KeepsQuietly v w
 
 -- A step, and a quiet one behind it, are one step, where at most one of them logs an answer, and
 -- work that comes in the first does not go in the second.

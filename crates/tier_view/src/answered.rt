@@ -1,5 +1,5 @@
 //! How calls are answered: by faults, by what holds them up, and by replies of the base.
-ghost use Rattle.tier_view.specs.Answered.{BlockedCallsKeep, EntriesMayLog, FaultsHaveRoom, FaultyCallsKeep, LandedCallsKeep, LandingWritesKeeps, LookedCallsKeep, NewCallsHaveNoWork, OwnActsStand, ReadersMayCloseNow, RecordsMayCloseNow, UnsentMayCloseNow};
+ghost use Rattle.tier_view.specs.Answered.{BlockedCallsKeep, EntriesMayLog, FaultsHaveRoom, FaultyCallsKeep, LandedActsFit, LandedCallsKeep, LandingWritesKeeps, LookedCallsKeep, NewCallsHaveNoWork, NumbersFindActs, OwnActsStand, ReadersMayCloseNow, RecordsMayCloseNow, UnsentMayCloseNow};
 
 /// What a call in flight is answered from its entry may be logged.
 pub fn entries_may_log()
@@ -59,4 +59,14 @@ pub fn looked_calls_keep()
 /// The own act of a call, found under its number, may be its answer.
 pub fn own_acts_stand()
     ensures { OwnActsStand }
+{}
+
+/// The number of a call's act finds it in the history.
+pub fn numbers_find_acts()
+    ensures { NumbersFindActs }
+{}
+
+/// Where a write landed, its owner's act fits what the base told.
+pub fn landed_acts_fit()
+    ensures { LandedActsFit }
 {}

@@ -1,5 +1,5 @@
 //! Quiet steps, and how calls end.
-ghost use Rattle.tier_view.specs.Answers.{EndingCallsKeeps, OneWorkIsDropped, QuietIsStep, QuietLeadsStep, QuietsJoin, StepsJoinQuiet};
+ghost use Rattle.tier_view.specs.Answers.{EndingCallsKeeps, LeavingIsQuiet, OneWorkIsDropped, QuietIsStep, QuietLeadsStep, QuietsJoin, StepsJoinQuiet};
 
 /// A quiet step is a step.
 pub fn quiet_is_step()
@@ -29,4 +29,9 @@ pub fn ending_calls_keeps()
 /// The work that goes with a call is the one that it is found to wait for.
 pub fn one_work_is_dropped()
     ensures { OneWorkIsDropped }
+{}
+
+/// A step that leaves stores, history and calls is quiet.
+pub fn leaving_is_quiet()
+    ensures { LeavingIsQuiet }
 {}

@@ -18,13 +18,14 @@ mod slice;
 mod stops;
 
 pub use answered::{
-    blocked_calls_keep, entries_may_log, faults_have_room, faulty_calls_keep, landed_calls_keep,
-    landing_writes_keeps, looked_calls_keep, new_calls_have_no_work, own_acts_stand,
-    readers_may_close_now, records_may_close_now, unsent_may_close_now,
+    blocked_calls_keep, entries_may_log, faults_have_room, faulty_calls_keep, landed_acts_fit,
+    landed_calls_keep, landing_writes_keeps, looked_calls_keep, new_calls_have_no_work,
+    numbers_find_acts, own_acts_stand, readers_may_close_now, records_may_close_now,
+    unsent_may_close_now,
 };
 pub use answers::{
-    ending_calls_keeps, one_work_is_dropped, quiet_is_step, quiet_leads_step, quiets_join,
-    steps_join_quiet,
+    ending_calls_keeps, leaving_is_quiet, one_work_is_dropped, quiet_is_step, quiet_leads_step,
+    quiets_join, steps_join_quiet,
 };
 pub use general::{steps_keep, whole_is_group};
 pub use lies::{
