@@ -42,7 +42,7 @@ entry_stays More (e ∷ es) (f ∷ fs) h n = by (e.number == n) (f.number == n) 
     by false true same o p k = absurd (true≢false (sym same))
     by false false same o p k = k
 
-asks_stays : (name : Name) (o p : Option Entry) → StaysFound o p → AsksFor name o → AsksFor name p
+pub asks_stays : (name : Name) (o p : Option Entry) → StaysFound o p → AsksFor name o → AsksFor name p
 asks_stays name None p h k = absurd k
 asks_stays name (Some e) None h k = absurd h
 asks_stays name (Some e) (Some f) h k = subst (λ a. AsksFor name (Some (record f { asked = a }))) (sym h.asked) k
@@ -59,7 +59,7 @@ began_in_stays old new heirs epoch Drain was k = k
 began_in_stays old new heirs epoch Agent was k = k
 began_in_stays old new heirs epoch Start was k = k
 
-first_stays : (old new : List Entry) → ((b : Entry) → IsIn b old → (c : Entry) × IsIn c new × Stays b c) → (o p : Option Entry) → StaysFound o p → (was : ℕ)
+pub first_stays : (old new : List Entry) → ((b : Entry) → IsIn b old → (c : Entry) × IsIn c new × Stays b c) → (o p : Option Entry) → StaysFound o p → (was : ℕ)
     → IsFirstEpoch old o was → IsFirstEpoch new p was
 first_stays old new heirs None p h was k = absurd k
 first_stays old new heirs (Some e) None h was k = absurd h

@@ -10,6 +10,16 @@ pub mod Delivering
 pub mod Delivered
 pub mod Settling
 pub mod Stopping
+pub mod Answering
+pub mod AnsweringWork
+pub mod AnsweringKeeps
+pub mod AnsweringEnds
+pub mod AnsweringFaults
+pub mod AnsweringBlocked
+pub mod AnsweringClosing
+pub mod AnsweringReplies
+pub mod AnsweringDrops
+pub mod AnsweringActs
 pub mod Refusals
 pub mod ServingWorlds
 pub mod Serving

@@ -20,3 +20,5 @@ pub mod Serves
 pub mod Locals
 pub mod Lies
 pub mod Starts
+pub mod Answers
+pub mod Answered

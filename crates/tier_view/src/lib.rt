@@ -9,6 +9,8 @@
 //! do nothing: their contracts are the laws.
 #![tactic(auto)]
 
+mod answered;
+mod answers;
 mod general;
 mod lies;
 mod locals;
@@ -18,6 +20,16 @@ mod slice;
 mod starts;
 mod stops;
 
+pub use answered::{
+    blocked_calls_keep, entries_may_log, faults_have_room, faulty_calls_keep, landed_acts_fit,
+    landed_calls_keep, landing_writes_keeps, looked_calls_keep, new_calls_have_no_work,
+    numbers_find_acts, own_acts_stand, readers_may_close_now, records_may_close_now,
+    unsent_may_close_now,
+};
+pub use answers::{
+    ending_calls_keeps, leaving_is_quiet, one_work_is_dropped, quiet_is_step, quiet_leads_step,
+    quiets_join, steps_join_quiet,
+};
 pub use general::{steps_keep, whole_is_group};
 pub use lies::{
     blocked_is_by_work, entries_ask_what_is_wanted, flushes_are_told_no_values,
