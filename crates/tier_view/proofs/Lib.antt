@@ -4,6 +4,7 @@ pub mod Owning
 pub mod Entering
 pub mod Resting
 pub mod Opening
+pub mod JoiningCalls
 pub mod Finding
 pub mod Beginning
 pub mod Delivering
@@ -20,6 +21,7 @@ pub mod AnsweringClosing
 pub mod AnsweringReplies
 pub mod AnsweringDrops
 pub mod AnsweringActs
+pub mod FoundingGroups
 pub mod Refusals
 pub mod ServingWorlds
 pub mod Serving

@@ -11,10 +11,12 @@ pub mod Grows
 pub mod Codes
 pub mod Owed
 pub mod Steps
+pub mod Joining
 pub mod Delivers
 pub mod Settles
 pub mod Laws
 pub mod Stops
+pub mod Founding
 pub mod Changes
 pub mod Serves
 pub mod Locals

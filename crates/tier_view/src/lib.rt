@@ -11,7 +11,9 @@
 
 mod answered;
 mod answers;
+mod founding;
 mod general;
+mod joining;
 mod lies;
 mod locals;
 mod parts;
@@ -29,8 +31,12 @@ pub use answered::{
 pub use answers::{
     ending_calls_keeps, leaving_is_quiet, one_work_is_dropped, quiet_is_step, quiet_leads_step,
     quiets_join, steps_join_quiet,
+pub use founding::{
+    epochs_are_as_read, founding_keeps, stores_stand_anew, stores_stand_as_read,
+    untold_stores_stand,
 };
 pub use general::{steps_keep, whole_is_group};
+pub use joining::opening_leads_step;
 pub use lies::{
     blocked_is_by_work, entries_ask_what_is_wanted, flushes_are_told_no_values,
     made_up_work_is_refused, second_commits_are_refused, strangers_do_not_act,
