@@ -31,6 +31,7 @@ pub use answered::{
 pub use answers::{
     ending_calls_keeps, leaving_is_quiet, one_work_is_dropped, quiet_is_step, quiet_leads_step,
     quiets_join, steps_join_quiet,
+};
 pub use founding::{
     epochs_are_as_read, founding_keeps, stores_stand_anew, stores_stand_as_read,
     untold_stores_stand,
