@@ -44,7 +44,8 @@ impl Model for CallTable {
       earlier = t.first;
     } };
 
-    ghost invariant = { λ t. AreInTurn (λ e. e.number) 1 t.entries.items × AreByEpoch t.first t.flown.items
+    ghost invariant = { λ t. AreInTurn (λ e. e.number) 1 t.entries.items
+        × AreByEpoch t.first t.flown.items
         × (vec_len t.flown + t.room ≤ vec_capacity t.flown) };
 }
 
