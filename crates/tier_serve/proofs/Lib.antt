@@ -1,3 +1,4 @@
 pub mod Shapes
 pub mod Bridging
 pub mod Agreeing
+pub mod UnreadSteps

@@ -5,7 +5,11 @@
 //! contracts are the laws.
 #![tactic(auto)]
 
+mod unread;
+
 ghost use Rattle.tier_serve.specs.Bridges.{BasesAgree, ReadingLeaves, ServingDelivers};
+
+pub use unread::{serving_fences, serving_readings, serving_strangers, serving_unread};
 
 /// Whatever a live base answers to a message, what becomes of the group is a step of the message.
 pub fn serving_delivers()
