@@ -2,3 +2,4 @@ pub mod Shapes
 pub mod Bridging
 pub mod Agreeing
 pub mod UnreadSteps
+pub mod InstallSteps

@@ -5,10 +5,12 @@
 //! contracts are the laws.
 #![tactic(auto)]
 
+mod installs;
 mod unread;
 
 ghost use Rattle.tier_serve.specs.Bridges.{BasesAgree, ReadingLeaves, ServingDelivers};
 
+pub use installs::serving_installs;
 pub use unread::{serving_fences, serving_readings, serving_strangers, serving_unread};
 
 /// Whatever a live base answers to a message, what becomes of the group is a step of the message.
