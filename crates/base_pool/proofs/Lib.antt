@@ -9,3 +9,4 @@ pub mod Sounding
 pub mod Outcomes
 pub mod Words
 pub mod Falling
+pub mod Keeping

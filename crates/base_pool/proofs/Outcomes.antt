@@ -1,6 +1,6 @@
 -- How messages end, case by case; and what holds of the map before.
 use Rattle.std.proofs.Common.{◌≡◌, ◌≢◌, ◌⊎◌, inl, inr, ℕ, Bool, true, false, not, cond, List, [], ◌∷◌, ◌++◌, Option, None, Some, Result, Ok, Err, refl, sym, ap, subst, ◌∙◌, ◌<◌, ◌≤◌, arith}
-use Rattle.std.specs.Prelude.{nat_lt, ◌==◌}
+use Rattle.std.specs.Prelude.{nat_lt, ◌==◌, is_some}
 use Rattle.std.proofs.lemmas.Bool.{le-ltb, lt-ltb, ne_eqb, true≢false}
 use Rattle.obj_model.specs.declared.change.Change.{Change}
 use Rattle.obj_model.specs.declared.state.NameState.{NameState}
@@ -116,3 +116,28 @@ old_untaken have (BaseMsg.GetChunk e op name at) less = apart have e less
 old_untaken have (BaseMsg.Look e op name v) less = apart have e less
 old_untaken have (BaseMsg.Write e op r) less = apart have e less
 old_untaken have (BaseMsg.Install e op name t) less = apart have e less
+
+-- ---- messages of epochs that the base was not told of
+
+ahead_served_by : (have e : ℕ) (x : Served) → have < e → in_epoch have e x ≡ replies have (BaseReply.NotFenced have e)
+ahead_served_by have e x more =
+    ap (λ t. cond t (replies have (BaseReply.OldEpoch have e)) (cond (nat_lt have e) (replies have (BaseReply.NotFenced have e)) x)) (le-ltb e have (omega (arith, more)))
+    ∙ ap (λ t. cond t (replies have (BaseReply.NotFenced have e)) x) (lt-ltb have e more)
+
+pub ahead_served : (have : ℕ) (s : NameState) (msg : BaseMsg) → is_some (name_in msg) ≡ true → have < epoch_in msg
+    → served have s msg ≡ replies have (BaseReply.NotFenced have (epoch_in msg))
+ahead_served have s (BaseMsg.Fence e) named more = absurd (true≢false (sym named))
+ahead_served have s (BaseMsg.GetChunk e op name at) named more = ahead_served_by have e _ more
+ahead_served have s (BaseMsg.Look e op name v) named more = ahead_served_by have e _ more
+ahead_served have s (BaseMsg.Write e op r) named more = ahead_served_by have e _ more
+ahead_served have s (BaseMsg.Install e op name t) named more = ahead_served_by have e _ more
+
+above : (have e : ℕ) → have < e → (e == have) ≡ false
+above have e more = ne_eqb e have (λ same. omega (arith, same, more))
+
+pub ahead_untaken : (have : ℕ) (msg : BaseMsg) → is_some (name_in msg) ≡ true → have < epoch_in msg → is_taken have msg ≡ false
+ahead_untaken have (BaseMsg.Fence e) named more = absurd (true≢false (sym named))
+ahead_untaken have (BaseMsg.GetChunk e op name at) named more = above have e more
+ahead_untaken have (BaseMsg.Look e op name v) named more = above have e more
+ahead_untaken have (BaseMsg.Write e op r) named more = above have e more
+ahead_untaken have (BaseMsg.Install e op name t) named more = above have e more

@@ -33,13 +33,13 @@ use Rattle.tier_types.specs.Serving.{Served, epoch_in, in_epoch, name_in, put_by
 use Rattle.tier_types.specs.declared.message.BaseActed.{BaseActed}
 use Rattle.tier_types.specs.declared.message.BaseMsg.{BaseMsg}
 use Rattle.tier_types.specs.declared.message.BaseReply.{BaseReply}
-use Rattle.base_pool.specs.Laws.{ChunksGather, GoesOn, IsServedTo, LeavesMap, LowerInstallLeaves, OldIsRefused, ReadingsLeave, StopsBetween, WritesOnce}
+use Rattle.base_pool.specs.Laws.{AheadIsRefused, ChunksGather, GoesOn, IsServedTo, LeavesMap, LowerInstallLeaves, OldIsRefused, ReadingsLeave, StopsBetween, WritesOnce}
 use Rattle.base_pool.specs.Serves.{Answers, Commits, FailsCommit, FailsReading, IsOn, IsSpelled, LacksRoom, Makes, Serves, StaysBase, changes_by, is_taken, state_put}
 use Rattle.base_pool.specs.Views.{BaseView, Has}
 use Rattle.base_pool.specs.declared.fault.BaseFault.{BaseFault}
 use Rattle.base_pool.specs.declared.fault.BaseFault.TheVariants.{Store, BadRecord}
 use Rattle.base_pool.proofs.Acting.{put_at, served_install, served_write}
-use Rattle.base_pool.proofs.Outcomes.{before_has, makes_leave, old_served, old_untaken, quiet_needs, quiet_stays, reply_cases, serve_cases, stays_leave}
+use Rattle.base_pool.proofs.Outcomes.{ahead_served, ahead_untaken, before_has, makes_leave, old_served, old_untaken, quiet_needs, quiet_stays, reply_cases, serve_cases, stays_leave}
 use Rattle.base_pool.proofs.Readings.{not_below, own_changes, own_epoch, own_taken}
 use Rattle.base_pool.proofs.Sounding.{get_put, made_holds}
 use Rattle.base_pool.proofs.Taking.{nothing_put}
@@ -75,6 +75,17 @@ old_is_refused msg old new result h less =
     (λ c. absurd (true≢false (sym c.commits.taken ∙ off)))
     result h
 
+pub ahead_is_refused : AheadIsRefused
+ahead_is_refused msg old new result h named more =
+    let off = ahead_untaken old.epoch msg named more in
+    serve_cases msg old new (λ r. (r ≡ Ok (BaseReply.NotFenced old.epoch (epoch_in msg))) × StaysBase old new)
+    (λ reply a. let q = quiet_stays msg old new reply a (BaseReply.NotFenced old.epoch (epoch_in msg)) (ahead_served old.epoch a.state msg named more) in (ap Ok q.0, q.1))
+    (λ e op used need limit l. absurd (true≢false (sym l.commits.taken ∙ off)))
+    (λ fault taken stays. absurd (true≢false (sym taken ∙ off)))
+    (λ r. absurd (true≢false (sym r.taken ∙ off)))
+    (λ c. absurd (true≢false (sym c.commits.taken ∙ off)))
+    result h
+
 -- ---- installations
 
 -- a name, where there is one, has the state
@@ -82,7 +93,7 @@ abbrev pub HasBy : Option (List ℕ) → NameState → Table → Type 0
 HasBy name s t = elim name [ None ↦ Unit {0} | Some n ↦ Has n s t ]
 
 -- the state that a message was answered on is the one that its name has
-on_state : (msg : BaseMsg) (old : BaseView) (name : List ℕ) (s t : NameState) (m : Table) → is_taken old.epoch msg ≡ true → name_in msg ≡ Some name → IsOn msg old s
+pub on_state : (msg : BaseMsg) (old : BaseView) (name : List ℕ) (s t : NameState) (m : Table) → is_taken old.epoch msg ≡ true → name_in msg ≡ Some name → IsOn msg old s
     → IsBefore old.store m → Has name t m → s ≡ t
 on_state msg old name s t m taken named on before has =
     state_one (fin.get m (state_key name)) s t (before_has old.store (Has name s) m before (subst (λ n. Holds old.store (HasBy n s)) named (on.read taken))) has
@@ -102,7 +113,7 @@ lower_install op name t s old new reply m h before has low =
 -- ---- requests
 
 -- a request that is told as fresh acted
-acted_of : (have op : ℕ) (reply : Reply) (x : Acted) → BaseReply.Wrote have op (BaseActed.Fresh reply) ≡ BaseReply.Wrote have op (told_of x) → (t : NameState) × (x ≡ Fresh t reply)
+pub acted_of : (have op : ℕ) (reply : Reply) (x : Acted) → BaseReply.Wrote have op (BaseActed.Fresh reply) ≡ BaseReply.Wrote have op (told_of x) → (t : NameState) × (x ≡ Fresh t reply)
 acted_of have op reply (Fresh t other) e = (t, ap (Fresh t) (same reply other e))
   where
     same : (a b : Reply) → BaseReply.Wrote have op (BaseActed.Fresh a) ≡ BaseReply.Wrote have op (BaseActed.Fresh b) → b ≡ a
@@ -111,7 +122,7 @@ acted_of have op reply (Again other) e = absurd (cc)
 acted_of have op reply (Stale kept) e = absurd (cc)
 acted_of have op reply (Worn limit) e = absurd (cc)
 
-anything : (v : StoreView) → Holds v (λ _. Unit {0})
+pub anything : (v : StoreView) → Holds v (λ _. Unit {0})
 anything v = by_moments v.moments
   where
     by_moments : (ms : Option (List CrashMaps)) → NowBy no_map ms (λ _. Unit {0})

@@ -1,5 +1,5 @@
 -- What follows of a base, in the words of its callers.
-use Rattle.std.specs.Prelude.{◌≡◌, ◌⊎◌, ◌≤◌, ◌<◌, ℕ, List, [], ◌∷◌, ◌++◌, Option, Some, None, Result, Ok, Err}
+use Rattle.std.specs.Prelude.{◌≡◌, ◌⊎◌, ◌≤◌, ◌<◌, ℕ, List, [], ◌∷◌, ◌++◌, Option, Some, None, is_some, true, Result, Ok, Err}
 use Rattle.copy_chunk.specs.Chunks.{chunks_of}
 use Rattle.copy_chunk.specs.Gathers.{IsFront, joined, wanted}
 use Rattle.copy_chunk.specs.declared.chunk.Chunk.{Chunk}
@@ -9,9 +9,11 @@ use Rattle.obj_model.specs.declared.reply.Reply.{Reply}
 use Rattle.obj_model.specs.declared.req.Req.{Req}
 use Rattle.obj_model.specs.declared.state.NameState.{NameState}
 use Rattle.obj_model.specs.declared.sub_op.SubOp.{SubOp}
+use Rattle.obj_ops.specs.Acts.{kept_of}
 use Rattle.pool_keys.specs.Left.{IsBefore, IsLeft, IsLeftSince, Tells}
 use Rattle.store_face.specs.Tables.{Table, changed_by}
-use Rattle.tier_types.specs.Serving.{epoch_in, served}
+use Rattle.store_face.specs.Views.{Holds}
+use Rattle.tier_types.specs.Serving.{epoch_in, name_in, served}
 use Rattle.tier_types.specs.declared.message.BaseActed.{BaseActed}
 use Rattle.tier_types.specs.declared.message.BaseMsg.{BaseMsg}
 use Rattle.tier_types.specs.declared.message.BaseReply.{BaseReply}
@@ -48,6 +50,14 @@ OldIsRefused =
     → Serves msg old new result → epoch_in msg < old.epoch
     → (result ≡ Ok (BaseReply.OldEpoch old.epoch (epoch_in msg))) × StaysBase old new
 
+-- a message about a name of an epoch that the base was not told of is refused, with both epochs;
+-- nothing changes. A Fence is about no name: it tells the base its epoch.
+abbrev pub AheadIsRefused : Type 0
+AheadIsRefused =
+    (msg : BaseMsg) (old new : BaseView) (result : Result BaseReply BaseFault)
+    → Serves msg old new result → is_some (name_in msg) ≡ true → old.epoch < epoch_in msg
+    → (result ≡ Ok (BaseReply.NotFenced old.epoch (epoch_in msg))) × StaysBase old new
+
 -- ---- requests and installations
 
 -- an Install of a `seq` that is no higher changes nothing, and is told as installed
@@ -66,6 +76,29 @@ WritesOnce =
     (Ok (BaseReply.Wrote old.epoch op (BaseActed.Fresh reply)))
     → Serves (BaseMsg.Write old.epoch again r) mid new (Ok told) → Tells old.store
     → (told ≡ BaseReply.Wrote old.epoch again (BaseActed.Again reply)) × StaysBase mid new
+
+-- a state keeps a request with the reply that it was given
+abbrev pub IsKeptIn : Req → Reply → NameState → Type 0
+IsKeptIn r reply s =
+    kept_of r.client s.seen ≡ Some (record { client = r.client; tid = r.tid; reply = reply })
+
+-- a map keeps a request with its reply, in the state of its name
+pub record KeepsRequest (r : Req) (reply : Reply) (t : Table) : Type 0 where
+  pub state : NameState
+  pub has : Has r.name state t
+  pub kept : IsKeptIn r reply state
+
+-- a request that acted is kept with its reply; and whatever came in between, one that is kept and
+-- comes again is answered with that reply, and changes nothing
+pub record KeptIsAnswered : Type 0 where
+  pub acted : (op : ℕ) (r : Req) (reply : Reply) (old new : BaseView)
+      → Serves (BaseMsg.Write old.epoch op r) old new
+      (Ok (BaseReply.Wrote old.epoch op (BaseActed.Fresh reply)))
+      → Holds new.store (KeepsRequest r reply)
+  pub again : (op : ℕ) (r : Req) (reply : Reply) (old new : BaseView) (told : BaseReply) (m : Table)
+      → Serves (BaseMsg.Write old.epoch op r) old new (Ok told)
+      → IsBefore old.store m → KeepsRequest r reply m
+      → (told ≡ BaseReply.Wrote old.epoch op (BaseActed.Again reply)) × StaysBase old new
 
 -- ---- readings
 
