@@ -1,0 +1,14 @@
+pub mod Orders
+pub mod Places
+pub mod Later
+pub mod Weights
+pub mod Summing
+pub mod Stands
+pub mod Cursors
+pub mod UnderKeys
+pub mod Judging
+pub mod CacheReads
+pub mod BaseReads
+pub mod Together
+pub mod BothReads
+pub mod Endings
