@@ -14,7 +14,7 @@ use Rattle.script_lang.specs.declared.line.Line.TheVariants as line
 use Rattle.script_lang.specs.declared.verbs.LineVerb.{LineVerb}
 use Rattle.script_lang.specs.declared.verbs.LineVerb.TheVariants as verb
 use Rattle.script_lang.specs.Contexts.{Context, IsInTime, MayStand, is_in_place}
-use Rattle.script_lang.specs.Spelling.{IsClient, IsLine, IsName, Says, line_words, mode_word, vector_words}
+use Rattle.script_lang.specs.Spelling.{IsClient, IsLine, IsName, Parses, line_words, mode_word, vector_words}
 use Rattle.script_lang.specs.Verbs.{line_verb_among, line_verb_of, line_verbs, line_word}
 use Rattle.script_lang.specs.Reading.{◌>>=◌, begin_by, by_word, client_at, client_of, ended, get_line, is_odd_byte, line_at, line_by, line_from, line_name_at, line_number_at, line_of, mode_line, mode_of, moment_of, name_line, name_of, number_of, op_line, or_cause, placed, rest_of, stop_by, time_line, unknown, vector_of, word_at, words_of}
 use Rattle.script_lang.proofs.Options.{bind_ok, by_word_ok, fit_ok, only_if_ok, or_cause_ok}
@@ -339,7 +339,7 @@ line_at-sound least words said h =
 -- a text says a line that may stand here
 pub record SaysHere (ctx : Context) (texts : List (List ℕ)) (text : List ℕ) (said : Line) : Type 0
   where
-    pub says : Says text said
+    pub says : Parses text said
     pub place : MayStand ctx texts said
 
 here_by_test : (ctx : Context) (texts : List (List ℕ)) (text : List ℕ) (said : Line) (odd : Bool)

@@ -3,7 +3,7 @@ use Rattle.std.proofs.Common.{◌≡◌, ℕ, zero, suc, ◌<◌, ◌≤◌, tru
 use Rattle.obj_model.specs.declared.sub_op.SubOp.{SubOp}
 use Rattle.script_lang.specs.Spelling.{op_words}
 use Rattle.script_lang.specs.Reading.{TakenOp, op_at, ops_within, ops_of, put_first, first_of, rest_of}
-use Rattle.script_lang.specs.Outcomes.{Takes, Tells}
+use Rattle.script_lang.specs.Outcomes.{Takes, IsParse}
 use Rattle.script_lang.specs.declared.cause.Cause.{Cause}
 use Rattle.script_lang.specs.declared.cause.Cause.TheVariants as cause
 use Rattle.script_lang.specs.declared.cause.LineFault.{LineFault}
@@ -121,7 +121,7 @@ Left-last done words whole op l at = sym l.same
 
 pub fault_told : (fault : LineFault) (done : List SubOp) (words whole rest : List (List ℕ))
     → Left done words whole
-    → Takes (Err fault) (op_at words) rest → Tells {A = List SubOp} (Err fault) (ops_of whole)
+    → Takes (Err fault) (op_at words) rest → IsParse {A = List SubOp} (Err fault) (ops_of whole)
 fault_told (Wrong why) done words whole rest l h = Left-none done words whole why l h
 fault_told NoMemory done words whole rest l h = tt
 

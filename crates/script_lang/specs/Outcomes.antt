@@ -12,11 +12,11 @@ use Rattle.script_lang.specs.Contexts.{Context, moved}
 use Rattle.script_lang.specs.Reading.{TakenOp, line_of}
 use Rattle.script_lang.specs.Scripts.{is_passed}
 
--- a reader answers what the words say; want of memory is free
-abbrev pub Tells : {A : Type 0} → Result A LineFault → Result A Cause → Type 0
-Tells (Ok value) said = said ≡ Ok value
-Tells (Err (fault.Wrong why)) said = said ≡ Err why
-Tells (Err fault.NoMemory) said = Unit {0}
+-- a result is the parse of the words; want of memory is free
+abbrev pub IsParse : {A : Type 0} → Result A LineFault → Result A Cause → Type 0
+IsParse (Ok value) said = said ≡ Ok value
+IsParse (Err (fault.Wrong why)) said = said ≡ Err why
+IsParse (Err fault.NoMemory) said = Unit {0}
 
 -- a fault has this cause; want of memory is free
 abbrev pub Blames : LineFault → Cause → Type 0

@@ -5,7 +5,7 @@ use Rattle.script_lang.specs.declared.cause.Cause.{Cause}
 use Rattle.script_lang.specs.declared.cause.Cause.TheVariants.{Long, Lines}
 use Rattle.script_lang.specs.declared.cause.ScriptFault.{ScriptFault}
 use Rattle.script_lang.specs.declared.cause.ScriptFault.TheVariants.{Bad, NoMemory}
-use Rattle.script_lang.specs.Spelling.{Says}
+use Rattle.script_lang.specs.Spelling.{Parses}
 use Rattle.script_lang.specs.Contexts.{Context, MayStand, moved, start}
 use Rattle.script_lang.specs.Reading.{line_of}
 
@@ -31,7 +31,7 @@ abbrev pub SaysFirst : Context → ℕ → List ℕ → List (List ℕ) → (Con
     → List Numbered → Type 0
 SaysFirst ctx number text texts Rest [] = ⊥
 SaysFirst ctx number text texts Rest (first ∷ others) =
-    (first.number ≡ number) × Says text first.line × MayStand ctx texts first.line
+    (first.number ≡ number) × Parses text first.line × MayStand ctx texts first.line
     × Rest (moved ctx first.line) others
 
 -- so many lines, the first of them of this number and in this context, say these, and this is the

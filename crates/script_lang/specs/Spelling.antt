@@ -119,7 +119,7 @@ IsLine line.StopBase = Unit {0}
 IsLine line.Par = Unit {0}
 IsLine line.End = Unit {0}
 
--- a text, without its newline, says this line
-pub record Says (text : List ℕ) (line : Line) : Type 0 where
+-- a text, without its newline, parses as this line
+pub record Parses (text : List ℕ) (line : Line) : Type 0 where
   pub lawful : IsLine line
   pub spelled : text ≡ spelling line

@@ -2,7 +2,7 @@
 ghost use Rattle.std.specs.Prelude.{◌≡◌};
 ghost use Rattle.std.specs.Option.{option_copied};
 ghost use Rattle.script_lang.specs.declared.cause.Cause.TheVariants as cause;
-ghost use Rattle.script_lang.specs.Outcomes.{Tells};
+ghost use Rattle.script_lang.specs.Outcomes.{IsParse};
 ghost use Rattle.script_lang.specs.Reading.{after_of, bytes_of, client_of, fit, name_of, number_of};
 
 use crate::cause::{Cause, LineFault};
@@ -12,7 +12,7 @@ use std::alloc::Global;
 
 /// A word as a number.
 pub(crate) fn number_in(word: Option<&[u8]>) -> Result<u64, LineFault>
-    ensures { Tells result (fit cause.Number number_of (option_copied word.entry)) }
+    ensures { IsParse result (fit cause.Number number_of (option_copied word.entry)) }
 {
     match word {
         Some(word) => match read_number(word) {
@@ -25,7 +25,7 @@ pub(crate) fn number_in(word: Option<&[u8]>) -> Result<u64, LineFault>
 
 /// A number as a client's.
 pub(crate) fn client_in(number: u64) -> Result<u16, LineFault>
-    ensures { Tells result (client_of number) }
+    ensures { IsParse result (client_of number) }
 {
     if number >= 1 && number <= u64::from(CLIENT_LIMIT) {
         Ok(number as u16)
@@ -36,7 +36,7 @@ pub(crate) fn client_in(number: u64) -> Result<u16, LineFault>
 
 /// A word as bytes.
 pub(crate) fn bytes_in(alloc: Global, word: Option<&[u8]>) -> Result<Bytes, LineFault>
-    ensures { Tells result (fit cause.Hex bytes_of (option_copied word.entry)) }
+    ensures { IsParse result (fit cause.Hex bytes_of (option_copied word.entry)) }
 {
     match word {
         Some(word) => match read_bytes(alloc, word) {
@@ -50,7 +50,7 @@ pub(crate) fn bytes_in(alloc: Global, word: Option<&[u8]>) -> Result<Bytes, Line
 
 /// A word as a name.
 pub(crate) fn name_in(alloc: Global, word: Option<&[u8]>) -> Result<Name, LineFault>
-    ensures { Tells result (fit cause.Name name_of (option_copied word.entry)) }
+    ensures { IsParse result (fit cause.Name name_of (option_copied word.entry)) }
 {
     match word {
         Some(word) => match read_name(alloc, word) {
@@ -64,7 +64,7 @@ pub(crate) fn name_in(alloc: Global, word: Option<&[u8]>) -> Result<Name, LineFa
 
 /// A word as the key to go on from, or none.
 pub(crate) fn after_in(alloc: Global, word: Option<&[u8]>) -> Result<Option<Name>, LineFault>
-    ensures { Tells result (fit cause.Name after_of (option_copied word.entry)) }
+    ensures { IsParse result (fit cause.Name after_of (option_copied word.entry)) }
 {
     match word {
         Some(word) => match read_after(alloc, word) {

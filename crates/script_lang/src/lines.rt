@@ -3,7 +3,7 @@
 //! The verb says which fields follow. The first word from the left that does not fit is the fault.
 ghost use Rattle.std.specs.Prelude.{◌≡◌};
 ghost use Rattle.std.specs.List.{list_any};
-ghost use Rattle.script_lang.specs.Outcomes.{Tells};
+ghost use Rattle.script_lang.specs.Outcomes.{IsParse};
 ghost use Rattle.script_lang.specs.Reading.{begin_by, client_at, ended, get_line, is_odd_byte, line_at, line_by, line_from, line_name_at, line_number_at, mode_line, mode_of, moment_of, op_line, rest_of, stop_by, time_line};
 ghost use Rattle.script_lang.specs.declared.line.Line.TheVariants as line;
 
@@ -32,7 +32,7 @@ fn is_odd_byte(byte: &u8) -> bool
 
 /// The command of these words, which sets no moment below `least`.
 pub(crate) fn read_words(alloc: Global, least: u64, words: &mut Words) -> Result<Line, LineFault>
-    ensures { Tells result (line_at least words.old) }
+    ensures { IsParse result (line_at least words.old) }
 {
     match words.word() {
         Some(word) => read_from(alloc, least, word, words),
@@ -42,7 +42,7 @@ pub(crate) fn read_words(alloc: Global, least: u64, words: &mut Words) -> Result
 
 // The command that begins with this word.
 fn read_from(alloc: Global, least: u64, word: &[u8], words: &mut Words) -> Result<Line, LineFault>
-    ensures { Tells result (line_from least words.old word.now) }
+    ensures { IsParse result (line_from least words.old word.now) }
 {
     match LineVerb::of(word) {
         Some(verb) => read_by(alloc, least, verb, words),
@@ -52,7 +52,7 @@ fn read_from(alloc: Global, least: u64, word: &[u8], words: &mut Words) -> Resul
 
 // The command of this verb.
 fn read_by(alloc: Global, least: u64, verb: LineVerb, words: &mut Words) -> Result<Line, LineFault>
-    ensures { Tells result (line_by least verb words.old) }
+    ensures { IsParse result (line_by least verb words.old) }
 {
     match verb {
         LineVerb::Op => read_op_line(alloc, words),
@@ -92,7 +92,7 @@ fn read_by(alloc: Global, least: u64, verb: LineVerb, words: &mut Words) -> Resu
 
 // The next word as a number.
 fn number(words: &mut Words) -> Result<u64, LineFault>
-    ensures value { Tells result (line_number_at words.old) }
+    ensures value { IsParse result (line_number_at words.old) }
     ensures rest { words.new ≡ rest_of words.old }
 {
     number_in(words.word())
@@ -100,7 +100,7 @@ fn number(words: &mut Words) -> Result<u64, LineFault>
 
 // The next word as a client's number.
 fn client(words: &mut Words) -> Result<u16, LineFault>
-    ensures value { Tells result (client_at words.old) }
+    ensures value { IsParse result (client_at words.old) }
     ensures rest { words.new ≡ rest_of words.old }
 {
     match number(words) {
@@ -111,7 +111,7 @@ fn client(words: &mut Words) -> Result<u16, LineFault>
 
 // The next word as a name.
 fn name(alloc: Global, words: &mut Words) -> Result<Name, LineFault>
-    ensures value { Tells result (line_name_at words.old) }
+    ensures value { IsParse result (line_name_at words.old) }
     ensures rest { words.new ≡ rest_of words.old }
 {
     name_in(alloc, words.word())
@@ -119,7 +119,7 @@ fn name(alloc: Global, words: &mut Words) -> Result<Name, LineFault>
 
 // The command, if no word is left.
 fn ended(line: Line, words: &mut Words) -> Result<Line, LineFault>
-    ensures { Tells result (ended line words.old) }
+    ensures { IsParse result (ended line words.old) }
 {
     match words.next() {
         None => Ok(line),
@@ -129,7 +129,7 @@ fn ended(line: Line, words: &mut Words) -> Result<Line, LineFault>
 
 // The write request whose fields are the words.
 fn read_op_line(alloc: Global, words: &mut Words) -> Result<Line, LineFault>
-    ensures { Tells result (op_line words.old) }
+    ensures { IsParse result (op_line words.old) }
 {
     let client = client(words)?;
     let tid = number(words)?;
@@ -145,7 +145,7 @@ fn read_op_line(alloc: Global, words: &mut Words) -> Result<Line, LineFault>
 
 // The reading whose fields are the words.
 fn read_get_line(alloc: Global, words: &mut Words) -> Result<Line, LineFault>
-    ensures { Tells result (get_line words.old) }
+    ensures { IsParse result (get_line words.old) }
 {
     let client = client(words)?;
     let name = name(alloc, words)?;
@@ -159,7 +159,7 @@ fn read_get_line(alloc: Global, words: &mut Words) -> Result<Line, LineFault>
 
 // The beginning of a flush, by its second word.
 fn read_begin(alloc: Global, word: &[u8], words: &mut Words) -> Result<Line, LineFault>
-    ensures { Tells result (begin_by words.old word.now) }
+    ensures { IsParse result (begin_by words.old word.now) }
 {
     if LineVerb::Flush.is(word) {
         let name = name(alloc, words)?;
@@ -174,7 +174,7 @@ fn read_begin(alloc: Global, word: &[u8], words: &mut Words) -> Result<Line, Lin
 
 // The stop of a pool, by its second word.
 fn read_stop(word: &[u8], words: &mut Words) -> Result<Line, LineFault>
-    ensures { Tells result (stop_by words.old word.now) }
+    ensures { IsParse result (stop_by words.old word.now) }
 {
     if word == b"cache".as_slice() {
         ended(Line::StopCache, words)
@@ -187,7 +187,7 @@ fn read_stop(word: &[u8], words: &mut Words) -> Result<Line, LineFault>
 
 // The mode that is set.
 fn read_mode_line(alloc: Global, words: &mut Words) -> Result<Line, LineFault>
-    ensures { Tells result (mode_line words.old) }
+    ensures { IsParse result (mode_line words.old) }
 {
     match words.word() {
         Some(word) => {
@@ -201,7 +201,7 @@ fn read_mode_line(alloc: Global, words: &mut Words) -> Result<Line, LineFault>
 // The mode of a word.
 #[tactic(auto, unfolding(crate::specs::Reading::mode_of))]
 fn read_mode(alloc: Global, word: &[u8]) -> Result<Mode, LineFault>
-    ensures { Tells result (mode_of word.now) }
+    ensures { IsParse result (mode_of word.now) }
 {
     if word == b"writeback".as_slice() {
         Ok(Mode::Writeback)
@@ -216,7 +216,7 @@ fn read_mode(alloc: Global, word: &[u8]) -> Result<Mode, LineFault>
 
 // The moment that is set, not below an earlier one.
 fn read_time_line(least: u64, words: &mut Words) -> Result<Line, LineFault>
-    ensures { Tells result (time_line least words.old) }
+    ensures { IsParse result (time_line least words.old) }
 {
     let number = number(words)?;
     let moment = not_below(least, number)?;
@@ -224,7 +224,7 @@ fn read_time_line(least: u64, words: &mut Words) -> Result<Line, LineFault>
 }
 
 fn not_below(least: u64, moment: u64) -> Result<u64, LineFault>
-    ensures { Tells result (moment_of least moment) }
+    ensures { IsParse result (moment_of least moment) }
 {
     if least <= moment {
         Ok(moment)

@@ -2,7 +2,7 @@
 ghost use Rattle.std.specs.Prelude.{◌≡◌, ◌≤◌, [], ◌∷◌, ◌++◌, length, MatchResult};
 ghost use Rattle.script_lang.specs.declared.cause.ScriptFault.TheVariants.{NoMemory};
 ghost use Rattle.script_lang.specs.Contexts.{moved, start};
-ghost use Rattle.script_lang.specs.Outcomes.{Advances, Halts, Shows, Tells, outcome};
+ghost use Rattle.script_lang.specs.Outcomes.{Advances, Halts, Shows, IsParse, outcome};
 ghost use Rattle.script_lang.specs.Reading.{line_of};
 ghost use Rattle.script_lang.specs.Scripts.{Explains, IsScript, lines_of};
 
@@ -97,7 +97,7 @@ fn read_line(
     text: &[u8],
     behind: &[u8],
 ) -> Result<Line, LineFault>
-    ensures { Tells result (line_of context.now (lines_of behind.now) text.now) }
+    ensures { IsParse result (line_of context.now (lines_of behind.now) text.now) }
 {
     if has_odd_byte(text) {
         return Err(LineFault::Wrong(Cause::Byte));

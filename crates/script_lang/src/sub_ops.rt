@@ -1,7 +1,7 @@
 //! Sub-operations and vectors of a line.
 ghost use Rattle.std.specs.Prelude.{◌≡◌};
 ghost use Rattle.std.specs.Option.{option_copied};
-ghost use Rattle.script_lang.specs.Outcomes.{Takes, Tells};
+ghost use Rattle.script_lang.specs.Outcomes.{Takes, IsParse};
 ghost use Rattle.script_lang.specs.Reading.{after_at, bytes_at, if_vector, name_at, number_at, op_at, op_from, op_of, ops_of, rest_of, vector_of};
 ghost use Rattle.obj_model.specs.Vectors.{vector_fault};
 
@@ -21,7 +21,7 @@ pub(crate) fn read_vector(
     writes: bool,
     words: &mut Words,
 ) -> Result<Vector, LineFault>
-    ensures { Tells result (vector_of writes words.old) }
+    ensures { IsParse result (vector_of writes words.old) }
 {
     let ops = read_ops(alloc, words)?;
     let vector = as_vector(ops)?;
@@ -33,7 +33,7 @@ pub(crate) fn read_vector(
 
 // Sub-operations as a vector, if nothing is wrong with them as a whole.
 fn as_vector(ops: OpList) -> Result<Vector, LineFault>
-    ensures { Tells result (if_vector (vector_fault ops) ops) }
+    ensures { IsParse result (if_vector (vector_fault ops) ops) }
 {
     match Vector::new(ops.into_vec()) {
         Ok(vector) => Ok(vector),
@@ -47,7 +47,7 @@ fn as_vector(ops: OpList) -> Result<Vector, LineFault>
 
 // All words that are left, as sub-operations with a semicolon between two.
 fn read_ops(alloc: Global, words: &mut Words) -> Result<OpList, LineFault>
-    ensures { Tells result (ops_of words.old) }
+    ensures { IsParse result (ops_of words.old) }
 {
     let mut ops = OpList::new(alloc);
     loop {
@@ -85,7 +85,7 @@ fn read_op_from(alloc: Global, word: &[u8], words: &mut Words) -> Result<SubOp, 
 
 // The next word as a number.
 fn number(words: &mut Words) -> Result<u64, LineFault>
-    ensures value { Tells result (number_at words.old) }
+    ensures value { IsParse result (number_at words.old) }
     ensures rest { words.new ≡ rest_of words.old }
 {
     number_in(words.field())
@@ -93,7 +93,7 @@ fn number(words: &mut Words) -> Result<u64, LineFault>
 
 // The next word as bytes.
 fn bytes(alloc: Global, words: &mut Words) -> Result<Bytes, LineFault>
-    ensures value { Tells result (bytes_at words.old) }
+    ensures value { IsParse result (bytes_at words.old) }
     ensures rest { words.new ≡ rest_of words.old }
 {
     bytes_in(alloc, words.field())
@@ -101,7 +101,7 @@ fn bytes(alloc: Global, words: &mut Words) -> Result<Bytes, LineFault>
 
 // The next word as a key.
 fn key(alloc: Global, words: &mut Words) -> Result<Name, LineFault>
-    ensures value { Tells result (name_at words.old) }
+    ensures value { IsParse result (name_at words.old) }
     ensures rest { words.new ≡ rest_of words.old }
 {
     name_in(alloc, words.field())
@@ -109,7 +109,7 @@ fn key(alloc: Global, words: &mut Words) -> Result<Name, LineFault>
 
 // The next word as the key to go on from, or none.
 fn after(alloc: Global, words: &mut Words) -> Result<Option<Name>, LineFault>
-    ensures value { Tells result (after_at words.old) }
+    ensures value { IsParse result (after_at words.old) }
     ensures rest { words.new ≡ rest_of words.old }
 {
     after_in(alloc, words.field())

@@ -11,7 +11,7 @@ use Rattle.script_lang.specs.declared.line.Line.TheVariants as line
 use Rattle.script_lang.specs.declared.verbs.LineVerb.{LineVerb}
 use Rattle.script_lang.specs.declared.verbs.LineVerb.TheVariants as verb
 use Rattle.script_lang.specs.Contexts.{Context, IsInTime, MayStand}
-use Rattle.script_lang.specs.Spelling.{IsClient, IsLine, IsName, IsOp, Says, line_words, mode_word, spelling, vector_words}
+use Rattle.script_lang.specs.Spelling.{IsClient, IsLine, IsName, IsOp, Parses, line_words, mode_word, spelling, vector_words}
 use Rattle.script_lang.specs.Verbs.{line_verb_of, line_word}
 use Rattle.script_lang.specs.Reading.{client_at, client_of, line_at, line_by, line_name_at, line_number_at, line_of, mode_of, name_line, words_of}
 use Rattle.script_lang.proofs.Joined.{IsWord, IsWords, joined_is_even, literal_is_word, word_at-word, words_of-joined}
@@ -242,7 +242,7 @@ line_of-spelling ctx texts said h p =
 
 -- what is said is read
 pub line_of-says : (ctx : Context) (texts : List (List ℕ)) (text : List ℕ) (said : Line)
-    → Says text said → MayStand ctx texts said
+    → Parses text said → MayStand ctx texts said
     → line_of ctx texts text ≡ Ok said
 line_of-says ctx texts text said s p = ap (line_of ctx texts) s.spelled
     ∙ line_of-spelling ctx texts said s.lawful p

@@ -143,9 +143,9 @@ settings_of [] = Ok defaults
 settings_of (b ∷ bytes) = if nat_lt 65536 (length (b ∷ bytes)) then Err NotJson else values_of
     (option_and_then as_object (json_of (b ∷ bytes)))
 
--- the fault tells what is wrong, unless memory was wanting
-abbrev pub Tells : SettingsFault → Result PoolValues Wrong → Type 0
-Tells fault.NotJson r = r ≡ Err NotJson
-Tells (fault.Unknown key) r = r ≡ Err (Unknown key)
-Tells (fault.BadValue key) r = r ≡ Err (BadValue key)
-Tells fault.NoMemory r = Unit {0}
+-- the fault is that of the reading, unless memory was wanting
+abbrev pub IsFaultOf : SettingsFault → Result PoolValues Wrong → Type 0
+IsFaultOf fault.NotJson r = r ≡ Err NotJson
+IsFaultOf (fault.Unknown key) r = r ≡ Err (Unknown key)
+IsFaultOf (fault.BadValue key) r = r ≡ Err (BadValue key)
+IsFaultOf fault.NoMemory r = Unit {0}

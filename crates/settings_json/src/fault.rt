@@ -1,6 +1,6 @@
 //! Why settings are refused.
 ghost use Rattle.std.specs.Prelude.{◌≡◌, Err, IfOk};
-ghost use Rattle.settings_json.specs.Settings.{Tells};
+ghost use Rattle.settings_json.specs.Settings.{IsFaultOf};
 ghost use Rattle.settings_json.specs.Steps.{wrong_of};
 
 use crate::table::Misfit;
@@ -29,7 +29,7 @@ fn key_bytes(alloc: Global, key: &str) -> Result<Bytes, AllocError>
 
 // What is told of a member that does not fit.
 pub(crate) fn member_fault(alloc: Global, key: &str, misfit: Misfit) -> SettingsFault
-    ensures { Tells result (Err (wrong_of key.now misfit)) }
+    ensures { IsFaultOf result (Err (wrong_of key.now misfit)) }
 {
     let Ok(bytes) = key_bytes(alloc, key) else {
         return SettingsFault::NoMemory;

@@ -9,7 +9,7 @@
 ghost use Rattle.std.specs.Prelude.{◌≡◌, MatchResult, Ok, Some};
 ghost use Rattle.serde_json.specs.View.{view, members_view};
 ghost use Rattle.serde_json.specs.Errors.{IsMemory};
-ghost use Rattle.settings_json.specs.Settings.{settings_of, with_all, defaults, json_of, Tells};
+ghost use Rattle.settings_json.specs.Settings.{settings_of, with_all, defaults, json_of, IsFaultOf};
 ghost use Rattle.settings_json.specs.Steps.{IsCause, IsNoData};
 
 mod fault;
@@ -31,7 +31,7 @@ pub const SETTINGS_LIMIT: usize = 65_536;
 fn with_members(alloc: Global, members: &Map<String, Value>) -> Result<PoolValues, SettingsFault>
     ensures { MatchResult result
         (λ v. with_all (members_view members.now.entries) defaults ≡ Ok v)
-        (λ e. Tells e (with_all (members_view members.now.entries) defaults)) }
+        (λ e. IsFaultOf e (with_all (members_view members.now.entries) defaults)) }
 {
     let mut values = DEFAULTS;
     for (key, value) in members {
@@ -72,7 +72,7 @@ fn json_in(alloc: Global, bytes: &[u8]) -> Result<Value, SettingsFault>
 /// at most 65,536 bytes that nests at most 127 deep.
 pub fn read_values(alloc: Global, bytes: &[u8]) -> Result<PoolValues, SettingsFault>
     ensures { MatchResult result
-        (λ v. settings_of bytes.now ≡ Ok v) (λ e. Tells e (settings_of bytes.now)) }
+        (λ v. settings_of bytes.now ≡ Ok v) (λ e. IsFaultOf e (settings_of bytes.now)) }
 {
     if bytes.is_empty() {
         return Ok(DEFAULTS);

@@ -9,5 +9,5 @@ pub mod Outcomes
 pub mod Pools
 pub mod Rooms
 pub mod Runs
-pub mod Said
+pub mod LineAnswer
 pub mod Views

@@ -9,25 +9,25 @@ use Rattle.store_face.specs.Tables.{Table}
 use Rattle.store_face.specs.Views.{CrashMaps, Durable, Holds, IsOne, Now, Sound, no_map}
 use Rattle.tier_outside.specs.Moments.{grown, last}
 use Rattle.tier_tool.specs.Bases.{BeforeOrAfter, StandsFor}
-use Rattle.tier_tool.specs.Lines.{Ending, IsBehind, IsLeft, LineSays, Said, Says, Standing}
-use Rattle.tier_tool.specs.Lines.{TellsFailure, said_text, standing, texts_of}
+use Rattle.tier_tool.specs.Lines.{Ending, IsBehind, IsLeft, AnswersLine, LineAnswer, AnswersLines, Standing}
+use Rattle.tier_tool.specs.Lines.{TellsFailure, line_answer_text, standing, texts_of}
 use Rattle.tier_tool.specs.Lines.Ending.{Failed, Lacking, Unheard, Unwritten, Whole}
-use Rattle.tier_tool.specs.Lines.Said.{Given, NoRoom, BadRecord}
+use Rattle.tier_tool.specs.Lines.LineAnswer.{Given, NoRoom, BadRecord}
 use Rattle.tier_tool.specs.Steps.Serving.{GoesOn, InDoubt, SameUnreadable}
 use Rattle.tier_tool.specs.Steps.Telling.{FailsIn, IsSaid, IsUnheard, IsUnwritten, LacksIn}
 use Rattle.tier_tool.specs.Steps.Telling.{SaysFrom, SaysLine, SaysSoFar, TellsLine, TellsLines}
 use Rattle.tier_tool.specs.Steps.Telling.{ToldSoFar, Words}
 use Rattle.tier_tool.specs.Tasks.{name_of}
 use Rattle.tier_tool.specs.declared.task.Numbered.{Numbered}
-use Rattle.tier_tool.proofs.Said.{same_map}
+use Rattle.tier_tool.proofs.LineAnswer.{same_map}
 use Rattle.tier_tool.proofs.Views.{At, goes_further, nothing_came, now_same, now_then}
 use Rattle.tier_tool.proofs.Views.{now_two, now_weaker}
 
 -- ---- lines, one after another
 
 -- one more line was said
-says_more : (t : Table) (room : ℕ) (p q m : Standing) (n : Numbered) (s : Said) (lines rest : List Numbered) (said : List Said) → Says t room p lines said (n ∷ rest) q
-    → LineSays t room q n s m → Says t room p lines (said ++ s ∷ []) rest m
+says_more : (t : Table) (room : ℕ) (p q m : Standing) (n : Numbered) (s : LineAnswer) (lines rest : List Numbered) (said : List LineAnswer) → AnswersLines t room p lines said (n ∷ rest) q
+    → AnswersLine t room q n s m → AnswersLines t room p lines (said ++ s ∷ []) rest m
 says_more t room p q m n s [] rest [] says more = absurd (nil_cons says.0)
   where
     nil_cons : n ∷ rest ≡ [] → ⊥
@@ -35,23 +35,23 @@ says_more t room p q m n s [] rest [] says more = absurd (nil_cons says.0)
 says_more t room p q m n s (l ∷ lines) rest [] says more =
     let same : l ≡ n = cc in
     let others : rest ≡ lines = cc in
-    (m, subst (λ w. LineSays t room p w s m) (sym same) (subst (λ w. LineSays t room w n s m) says.1 more), (others, refl))
+    (m, subst (λ w. AnswersLine t room p w s m) (sym same) (subst (λ w. AnswersLine t room w n s m) says.1 more), (others, refl))
 says_more t room p q m n s [] rest (x ∷ said) says more = absurd says
 says_more t room p q m n s (l ∷ lines) rest (x ∷ said) says more = (says.0, says.1, says_more t room says.0 q m n s lines rest said says.2 more)
 
 -- what is said of a line speaks of the names that are unreadable, which stay the same
-same_says : (t u : Table) (room : ℕ) (p q : Standing) (n : Numbered) (s : Said) → SameUnreadable t u → LineSays u room p n s q → LineSays t room p n s q
+same_says : (t u : Table) (room : ℕ) (p q : Standing) (n : Numbered) (s : LineAnswer) → SameUnreadable t u → AnswersLine u room p n s q → AnswersLine t room p n s q
 same_says t u room p q n (Given a) same says = (λ un. says.0 ((same (name_of n.line)).1 un), says.1, says.2, says.3)
 same_says t u room p q n (NoRoom number used more limit) same says =
     (λ un. says.0 ((same (name_of n.line)).1 un), says.1, says.2, says.3, says.4, says.5, says.6, says.7)
 same_says t u room p q n (BadRecord number name) same says = ((same name).0 says.0, says.1, says.2, says.3)
 
-texts_more : (said : List Said) (s : Said) → texts_of (said ++ s ∷ []) ≡ texts_of said ++ said_text s
-texts_more [] s = append-nil (said_text s)
-texts_more (x ∷ said) s = ap (λ w. said_text x ++ w) (texts_more said s) ∙ sym (append_assoc (said_text x) (texts_of said) (said_text s))
+texts_more : (said : List LineAnswer) (s : LineAnswer) → texts_of (said ++ s ∷ []) ≡ texts_of said ++ line_answer_text s
+texts_more [] s = append-nil (line_answer_text s)
+texts_more (x ∷ said) s = ap (λ w. line_answer_text x ++ w) (texts_more said s) ∙ sym (append_assoc (line_answer_text x) (texts_of said) (line_answer_text s))
 
 -- what was said so far, and of one more line
-more_so_far : (t u : Table) (room : ℕ) (began : Standing) (lines rest : List Numbered) (n : Numbered) (said : List Said) (s : Said) (before acts : ℕ) (mid new : LogView) → SameUnreadable t u
+more_so_far : (t u : Table) (room : ℕ) (began : Standing) (lines rest : List Numbered) (n : Numbered) (said : List LineAnswer) (s : LineAnswer) (before acts : ℕ) (mid new : LogView) → SameUnreadable t u
     → (so : SaysSoFar t room began lines (n ∷ rest) said before mid) → StandsFor u so.behind.plain.store
     → ((p : Standing) → p.plain.acts ≡ before → p.used ≡ mid.used → StandsFor u p.plain.store → SaysLine u room p n s acts new)
     → SaysSoFar t room began lines rest (said ++ s ∷ []) acts new
@@ -155,7 +155,7 @@ left_after v q one taken stands =
     )) one stands
 
 -- where the run ends between two lines, what is left stands behind those that were said
-from_here : (ending : Ending) (lines left : List Numbered) (said : List Said) (acts : ℕ)
+from_here : (ending : Ending) (lines left : List Numbered) (said : List LineAnswer) (acts : ℕ)
     (old new : LogView) → ((q : Standing) (d : Durable) → IsBehind q d → IsLeft q ending d)
     → Sound (store_of new) → new.live ≡ true
     → Holds (store_of old) (λ t. (store : Store) → StandsFor t store
@@ -194,11 +194,11 @@ tells_whole lines left acts old new disk_rose sink_rose put none so = record {
 
 -- one more line was said, and its text is taken for told
 said_more : (lines rest : List Numbered) (n : Numbered) (before acts : ℕ) (old mid new : LogView)
-    (put : List ℕ) (s : Said) → Sound (store_of new) → SameStore mid new
+    (put : List ℕ) (s : LineAnswer) → Sound (store_of new) → SameStore mid new
     → GoesOn (store_of mid) (store_of new) → ToldSoFar lines (n ∷ rest) before old mid put
-    → IsSaid n s before acts mid new → ToldSoFar lines rest acts old new (put ++ said_text s)
+    → IsSaid n s before acts mid new → ToldSoFar lines rest acts old new (put ++ line_answer_text s)
 said_more lines rest n before acts old mid new put s sound same goes so is =
-    told_more lines rest n before acts old mid new put (said_text s) sound same goes so
+    told_more lines rest n before acts old mid new put (line_answer_text s) sound same goes so
     (record { said = s; text_is = refl; is = is })
 
 -- the sink failed at the last text

@@ -19,10 +19,10 @@ use Rattle.tier_outside.specs.Disk.{DiskMoment, EachImage, IsImage}
 use Rattle.tier_outside.specs.DiskMoments.{last, grown, Leaves, SomeImage}
 use Rattle.tier_outside.proofs.DiskMoments.{now_since, now_weaker}
 use Rattle.tier_tool.specs.Bases.{StandsFor}
-use Rattle.tier_tool.specs.Lines.{Ending, IsLeft, Said, Says, Standing}
+use Rattle.tier_tool.specs.Lines.{Ending, IsLeft, LineAnswer, AnswersLines, Standing}
 use Rattle.tier_tool.specs.Lines.{EndsAs, given, lines_given, standing}
 use Rattle.tier_tool.specs.Lines.Ending.{Failed, Lacking, Unheard, Unwritten, Whole}
-use Rattle.tier_tool.specs.Lines.Said.{Given, NoRoom, BadRecord}
+use Rattle.tier_tool.specs.Lines.LineAnswer.{Given, NoRoom, BadRecord}
 use Rattle.tool_jobs.specs.Outside.{Targets, base_of, room_of}
 use Rattle.tier_tool.specs.Plain.{Plain, after, answered, answers}
 use Rattle.tier_tool.specs.Runs.{BackLeaves, IsKept, RunsTasks, SaidFrom}
@@ -85,7 +85,7 @@ unopened_runs lines fault.NoMemory old new status refused kept left tells =
 -- ---- the base was opened
 
 -- how a run of lines ends does not depend on why the disk failed
-ends_weaker : (disk_rose whole_disk sink_rose : Type 0) (said : List Said) (left : List Numbered)
+ends_weaker : (disk_rose whole_disk sink_rose : Type 0) (said : List LineAnswer) (left : List Numbered)
     (ending : Ending) (put : List ℕ) (status : ℕ) → (disk_rose → whole_disk)
     → EndsAs disk_rose sink_rose said left ending put status
     → EndsAs whole_disk sink_rose said left ending put status
@@ -119,7 +119,7 @@ kept_now base s q ending holds before after_ =
 
 -- the answers among what is said are the plain store's, to the lines that were answered
 given_answers : (t : Table) (room : ℕ) (p q : Standing) (lines : List Numbered)
-    (said : List Said) (left : List Numbered) → Says t room p lines said left q
+    (said : List LineAnswer) (left : List Numbered) → AnswersLines t room p lines said left q
     → given said ≡ answers (lines_given lines said) p.plain
 given_answers t room p q lines [] left says = refl
 given_answers t room p q [] (s ∷ said) left says = absurd says
@@ -139,7 +139,7 @@ given_answers t room p q (n ∷ lines) (BadRecord number name ∷ said) left say
     ∙ ap (λ (w : Plain). answers (lines_given lines said) w) behind
 
 kept_said : (t : Table) (room : ℕ) (st : Store) (used : ℕ) (lines : List Numbered)
-    (said : List Said) (left : List Numbered) (ending : Ending) (w : LogView) (base : DiskMoments)
+    (said : List LineAnswer) (left : List Numbered) (ending : Ending) (w : LogView) (base : DiskMoments)
     (ss more : List CrashMaps) → w.moments ≡ moments.grown (Some ss) more
     → store.Now (store_of w) (EachHolds Base 257 base)
     → SaysFrom t room (standing st used) lines said left ending (store_of w)
@@ -200,17 +200,17 @@ opened_runs lines old new v w status opened stops same goes holds later faults t
     rose_as : (a b c d : ℕ) → a ≤ b → d ≡ c → Rose b c → Rose a d
     rose_as a b c d h same rose = subst (Rose a) (sym same) (rose_later a b c h rose)
 
-    Tells : List ℕ → Type 0
-    Tells put =
+    TellsPut : List ℕ → Type 0
+    TellsPut put =
         TellsLines lines v w (Rose v.faults w.faults) (Rose old.out.faults new.out.faults) put status
 
-    Says : (put : List ℕ) → Tells put → ℕ → Table → Type 0
-    Says put tells limit t =
+    AnswersLines : (put : List ℕ) → TellsPut put → ℕ → Table → Type 0
+    AnswersLines put tells limit t =
         (st : Store) → StandsFor t st
         → SaysFrom t limit (standing st v.used) lines tells.said tells.left tells.ending
         (store_of w)
 
-    from : {put : List ℕ} (tells : Tells put) (a : DiskMoments) → v.disk ≡ grown a stops.more
+    from : {put : List ℕ} (tells : TellsPut put) (a : DiskMoments) → v.disk ≡ grown a stops.more
         → SomeImage a (OpensAs Base 257 (record { table = opened.table; used = v.used }))
         → SomeImage a (λ image. (log : Durable) × OpensAs Base 257 log image
         × ((st : Store) → StandsFor log.table st
@@ -221,8 +221,8 @@ opened_runs lines old new v w status opened stops same goes holds later faults t
         let one = alone log ∷ [] in
         let tells_of : v.moments ≡ Some one =
         opened.told_is ∙ ap (λ x. moments.told x one) grew in
-        let says = subst (λ limit. Says _ tells limit opened.table) opened.room_is
-        (now_same v.moments (Some one) (λ (s : CrashMaps). Says _ tells v.room s.before.table)
+        let says = subst (λ limit. AnswersLines _ tells limit opened.table) opened.room_is
+        (now_same v.moments (Some one) (λ (s : CrashMaps). AnswersLines _ tells v.room s.before.table)
         tells_of tells.from) in
         let later : w.moments ≡ moments.grown (Some one) goes.more =
         goes.grew ∙ ap (λ m. moments.grown m goes.more) tells_of in (

@@ -31,35 +31,35 @@ behind_line p n = record {
 
 -- What is said of a line: its answer; or that the pool has no room for its act; or that the name's
 -- value spells no state.
-pub data Said : Type 0 where
-  Given : Answered → Said
-  NoRoom : (number used more limit : ℕ) → Said
-  BadRecord : (number : ℕ) → (name : List ℕ) → Said
+pub data LineAnswer : Type 0 where
+  Given : Answered → LineAnswer
+  NoRoom : (number used more limit : ℕ) → LineAnswer
+  BadRecord : (number : ℕ) → (name : List ℕ) → LineAnswer
 
 -- the text of what is said; a line that is not carried out has no place
-abbrev pub said_text : Said → List ℕ
-said_text (Given a) = call_text a.number a.place a.answer
-said_text (NoRoom number used more limit) =
+abbrev pub line_answer_text : LineAnswer → List ℕ
+line_answer_text (Given a) = call_text a.number a.place a.answer
+line_answer_text (NoRoom number used more limit) =
     call_text number 0 (answer.NoSpace Base used more limit)
-said_text (BadRecord number name) = call_text number 0 (answer.BadRecord Base name)
+line_answer_text (BadRecord number name) = call_text number 0 (answer.BadRecord Base name)
 
 -- the texts of what is said, one behind another
-abbrev pub texts_of : List Said → List ℕ
-texts_of said = concat (map said_text said)
+abbrev pub texts_of : List LineAnswer → List ℕ
+texts_of said = concat (map line_answer_text said)
 
 -- the text of a line in which the base's disk failed
 abbrev pub disk_fault_text : ℕ → List ℕ
 disk_fault_text number = call_text number 0 (answer.DiskFault Base)
 
 -- the answers among what is said
-abbrev pub given : List Said → List Answered
+abbrev pub given : List LineAnswer → List Answered
 given [] = []
 given (Given a ∷ said) = a ∷ given said
 given (NoRoom number used more limit ∷ said) = given said
 given (BadRecord number name ∷ said) = given said
 
 -- the lines that were answered, where this is said of the first ones
-abbrev pub lines_given : List Numbered → List Said → List Numbered
+abbrev pub lines_given : List Numbered → List LineAnswer → List Numbered
 lines_given lines [] = []
 lines_given [] (s ∷ said) = []
 lines_given (n ∷ lines) (Given a ∷ said) = n ∷ lines_given lines said
@@ -70,25 +70,25 @@ lines_given (n ∷ lines) (BadRecord number name ∷ said) = lines_given lines s
 -- stands before the line; and what stands behind it. It has the plain store's answer, at its place,
 -- where its record fits into the room, and uses that; or it would act, and its record does not fit,
 -- and it changes nothing; or its name is unreadable.
-abbrev pub LineSays : Table → (room : ℕ) → Standing → Numbered → Said → Standing → Type 0
-LineSays t room p n (Given a) q =
+abbrev pub AnswersLine : Table → (room : ℕ) → Standing → Numbered → LineAnswer → Standing → Type 0
+AnswersLine t room p n (Given a) q =
     (¬ IsUnreadable t (name_of n.line)) × (a ≡ answered p.plain n)
     × HasRoom room p.used p.plain.store n.line × (q ≡ behind_line p n)
-LineSays t room p n (NoRoom number used more limit) q =
+AnswersLine t room p n (NoRoom number used more limit) q =
     (¬ IsUnreadable t (name_of n.line)) × ActsOn p.plain.store n.line × (number ≡ n.number)
     × (used ≡ p.used) × (more ≡ cost p.plain.store n.line) × (limit ≡ room)
     × (room < used + more) × (q ≡ p)
-LineSays t room p n (BadRecord number name) q =
+AnswersLine t room p n (BadRecord number name) q =
     IsUnreadable t name × (number ≡ n.number) × (name ≡ name_of n.line) × (q ≡ p)
 
 -- What is said of the first lines, one after another; the lines that are left; and what stands
 -- behind those that were said.
-abbrev pub Says : Table → (room : ℕ) → Standing → List Numbered → List Said → List Numbered
+abbrev pub AnswersLines : Table → (room : ℕ) → Standing → List Numbered → List LineAnswer → List Numbered
     → Standing → Type 0
-Says t room p lines [] left q = (left ≡ lines) × (q ≡ p)
-Says t room p [] (s ∷ ss) left q = ⊥
-Says t room p (n ∷ ns) (s ∷ ss) left q =
-    (m : Standing) × LineSays t room p n s m × Says t room m ns ss left q
+AnswersLines t room p lines [] left q = (left ≡ lines) × (q ≡ p)
+AnswersLines t room p [] (s ∷ ss) left q = ⊥
+AnswersLines t room p (n ∷ ns) (s ∷ ss) left q =
+    (m : Standing) × AnswersLine t room p n s m × AnswersLines t room m ns ss left q
 
 -- How a run of lines ends: all lines were said; or the sink failed at the last that was, or there
 -- was no memory for its text; or the disk failed in a line, of which nothing else is said; or there
@@ -106,29 +106,29 @@ pub record IsFront (front whole : List ℕ) : Type 0 where
   pub joined : front ++ rest ≡ whole
 
 -- all was put, and no line is left: status 0
-pub record EndsWhole (said : List Said) (left : List Numbered) (put : List ℕ) (status : ℕ)
+pub record EndsWhole (said : List LineAnswer) (left : List Numbered) (put : List ℕ) (status : ℕ)
     : Type 0 where
   pub ended : status ≡ 0
   pub none_left : left ≡ []
   pub all : put ≡ texts_of said
 
 -- the sink failed at the last text, and has a beginning of it: status 8
-pub record EndsUnheard (sink_rose : Type 0) (said : List Said) (put : List ℕ) (status : ℕ)
+pub record EndsUnheard (sink_rose : Type 0) (said : List LineAnswer) (put : List ℕ) (status : ℕ)
     : Type 0 where
   pub ended : status ≡ 8
   pub cause : sink_rose
-  pub before : List Said
-  pub last : Said
+  pub before : List LineAnswer
+  pub last : LineAnswer
   pub split : said ≡ before ++ last ∷ []
   pub part : List ℕ
-  pub front : IsFront part (said_text last)
+  pub front : IsFront part (line_answer_text last)
   pub heard : put ≡ texts_of before ++ part
 
 -- the last line was carried out or refused, and there was no memory for its text: status 9
-pub record EndsUnwritten (said : List Said) (put : List ℕ) (status : ℕ) : Type 0 where
+pub record EndsUnwritten (said : List LineAnswer) (put : List ℕ) (status : ℕ) : Type 0 where
   pub ended : status ≡ 9
-  pub before : List Said
-  pub last : Said
+  pub before : List LineAnswer
+  pub last : LineAnswer
   pub split : said ≡ before ++ last ∷ []
   pub heard : put ≡ texts_of before
 
@@ -140,7 +140,7 @@ TellsFailure sink_rose n put status =
     ⊎ ((status ≡ 8) × sink_rose × IsFront put (disk_fault_text n.number))
 
 -- the disk failed in a line, the first that is left: its count of faults rose
-pub record EndsFailed (disk_rose sink_rose : Type 0) (said : List Said) (left : List Numbered)
+pub record EndsFailed (disk_rose sink_rose : Type 0) (said : List LineAnswer) (left : List Numbered)
     (n : Numbered) (put : List ℕ) (status : ℕ) : Type 0 where
   pub others : List Numbered
   pub at : left ≡ n ∷ others
@@ -150,7 +150,7 @@ pub record EndsFailed (disk_rose sink_rose : Type 0) (said : List Said) (left : 
   pub heard : put ≡ texts_of said ++ part
 
 -- there was no memory for a line, the first that is left, and it did nothing: status 9
-pub record EndsLacking (said : List Said) (left : List Numbered) (n : Numbered) (put : List ℕ)
+pub record EndsLacking (said : List LineAnswer) (left : List Numbered) (n : Numbered) (put : List ℕ)
     (status : ℕ) : Type 0 where
   pub ended : status ≡ 9
   pub others : List Numbered
@@ -158,7 +158,7 @@ pub record EndsLacking (said : List Said) (left : List Numbered) (n : Numbered) 
   pub all : put ≡ texts_of said
 
 -- how a run of lines ended, by what was put and the status
-abbrev pub EndsAs : (disk_rose sink_rose : Type 0) → List Said → List Numbered → Ending → List ℕ
+abbrev pub EndsAs : (disk_rose sink_rose : Type 0) → List LineAnswer → List Numbered → Ending → List ℕ
     → ℕ → Type 0
 EndsAs disk_rose sink_rose said left Whole put status = EndsWhole said left put status
 EndsAs disk_rose sink_rose said left Unheard put status = EndsUnheard sink_rose said put status

@@ -14,11 +14,11 @@ use Rattle.tier_outside.specs.Disk.{DiskMoment, EachImage, IsImage}
 use Rattle.tier_outside.specs.DiskMoments.{Now, SomeImage}
 use Rattle.tier_outside.specs.Streams.{Gains}
 use Rattle.tier_tool.specs.Bases.{StandsFor}
-use Rattle.tier_tool.specs.Lines.{EndsAs, Ending, IsLeft, Said, Says, Standing, given, lines_given}
+use Rattle.tier_tool.specs.Lines.{EndsAs, Ending, IsLeft, LineAnswer, AnswersLines, Standing, given, lines_given}
 use Rattle.tier_tool.specs.Lines.{standing}
 use Rattle.tool_jobs.specs.Outside.{PairSeen, Targets, base_of, room_of}
 use Rattle.tier_tool.specs.Plain.{plain}
-use Rattle.tool_jobs.specs.Putting.{MakesAndTells}
+use Rattle.tool_jobs.specs.Putting.{MakesAndPuts}
 use Rattle.tier_tool.specs.Tasks.{IsFirstUnbuilt, as_line}
 use Rattle.tier_tool.specs.declared.task.Numbered.{Numbered}
 
@@ -63,7 +63,7 @@ pub record RefusesImage (old new : Targets) (status : ℕ) : Type 0 where
   pub why : List ℕ
   pub cause : IsBadBase old why ⊎ IsOtherBase old why
   pub base_kept : BaseLeaves old.pairs new.pairs IsImage
-  pub told : MakesAndTells why 5 old.out new.out status
+  pub told : MakesAndPuts why 5 old.out new.out status
 
 -- ---- the lines are carried out
 
@@ -80,16 +80,16 @@ IsKept now ending moments =
 -- or, where the disk failed in a line, for that store with its act too, and with the record of it
 -- used. So an act that was told survives any crash.
 pub record SaidFrom (t : Table) (room : ℕ) (store : Store) (used : ℕ) (lines : List Numbered)
-    (said : List Said) (left : List Numbered) (ending : Ending) (base : Option (List DiskMoment))
+    (said : List LineAnswer) (left : List Numbered) (ending : Ending) (base : Option (List DiskMoment))
     : Type 0 where
   pub now : Standing
-  pub says : Says t room (standing store used) lines said left now
+  pub says : AnswersLines t room (standing store used) lines said left now
   pub plainly : given said ≡ plain (lines_given lines said) store
   pub kept : IsKept now ending base
 
 -- what was said was said from the log that an image of the base's disk was opened as, whichever
 -- plain store its map stands for
-abbrev pub SaysFromImage : List PairSeen → List PairSeen → List Numbered → List Said
+abbrev pub SaysFromImage : List PairSeen → List PairSeen → List Numbered → List LineAnswer
     → List Numbered → Ending → Type 0
 SaysFromImage old new lines said left ending =
     SomeImage (base_of old).moments (λ image. (log : Durable) × OpensAs Base 257 log image
@@ -100,7 +100,7 @@ SaysFromImage old new lines said left ending =
 -- Lines are carried out on the base from the log that an image of its disk was opened as. The base
 -- of the first pair has the number 257.
 pub record CarriesLines (lines : List Numbered) (old new : Targets) (status : ℕ) : Type 0 where
-  pub said : List Said
+  pub said : List LineAnswer
   pub left : List Numbered
   pub ending : Ending
   pub put : List ℕ
@@ -117,7 +117,7 @@ pub record TellsUnbuilt (lines : List lang.Numbered) (old new : Targets) (status
   pub number : ℕ
   pub unbuilt : IsFirstUnbuilt lines number
   pub pairs_same : new.pairs ≡ old.pairs
-  pub told : MakesAndTells (unbuilt_text number) 4 old.out new.out status
+  pub told : MakesAndPuts (unbuilt_text number) 4 old.out new.out status
 
 -- there was no memory before the base was opened: status 9, and nothing is touched
 pub record LacksBefore (old new : Targets) (status : ℕ) : Type 0 where

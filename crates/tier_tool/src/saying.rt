@@ -5,8 +5,8 @@ ghost use Rattle.log_store.specs.Commits.{SameStore};
 ghost use Rattle.log_store.specs.Views.{store_of};
 ghost use Rattle.store_face.specs.Views.{Sound};
 ghost use Rattle.tier_outside.specs.Causes.{Rose};
-ghost use Rattle.tier_tool.specs.Lines.{said_text};
-ghost use Rattle.tier_tool.specs.Lines.Said.{BadRecord, NoRoom};
+ghost use Rattle.tier_tool.specs.Lines.{line_answer_text};
+ghost use Rattle.tier_tool.specs.Lines.LineAnswer.{BadRecord, NoRoom};
 ghost use Rattle.tier_tool.specs.Steps.Serving.{GoesOn, acts_more};
 ghost use Rattle.tier_tool.specs.Steps.Telling.{IsInWords, SayEnds, SaysFault};
 ghost use Rattle.tier_tool.specs.Tasks.{IsTask, name_of};
@@ -74,7 +74,7 @@ fn acts_more(acted: bool) -> u64
 }
 
 // Puts into words why a line was not carried out.
-#[tactic(auto, using(crate::proofs::Said::is_written))]
+#[tactic(auto, using(crate::proofs::LineAnswer::is_written))]
 fn say_fault(numbered: &Numbered, fault: LineFault, text: &mut Text) -> Result<(), Unsaid>
     ensures { SaysFault numbered.now fault text.old text.new result }
 {
@@ -116,7 +116,7 @@ fn write_no_space(
     limit: u64,
     text: &mut Text,
 ) -> Result<(), NoMemory>
-    ensures { OnOk result (text.new ≡ text.old ++ said_text (NoRoom number used need limit)) }
+    ensures { OnOk result (text.new ≡ text.old ++ line_answer_text (NoRoom number used need limit)) }
 {
     let refused = Answer::NoSpace {
         pool: Pool::Base,
@@ -130,7 +130,7 @@ fn write_no_space(
 // What the pool has under a line's name spells no state.
 fn write_bad_record(numbered: &Numbered, text: &mut Text) -> Result<(), NoMemory>
     ensures { OnOk result (text.new ≡ text.old
-        ++ said_text (BadRecord numbered.now.number (name_of numbered.now.line))) }
+        ++ line_answer_text (BadRecord numbered.now.number (name_of numbered.now.line))) }
 {
     let refused = Answer::BadRecord {
         pool: Pool::Base,

@@ -8,7 +8,7 @@ use Rattle.script_lang.specs.declared.line.Numbered as lang
 use Rattle.tier_outside.specs.Causes.{Rose}
 use Rattle.tier_outside.specs.Streams.{Loses, StreamState}
 use Rattle.tool_jobs.specs.Outside.{Outside, PairSeen, Targets, outside, targets}
-use Rattle.tool_jobs.specs.Putting.{MakesAndTells, Tells}
+use Rattle.tool_jobs.specs.Putting.{MakesAndPuts, Puts}
 use Rattle.tool_jobs.specs.Words.{asked_of, usage_text}
 use Rattle.tool_jobs.specs.declared.reading.Unread.{Unread}
 use Rattle.tool_jobs.specs.declared.reading.Unread.TheVariants as unread
@@ -26,7 +26,7 @@ pub record IsMisused (words : List (List ℕ)) (old new : Outside) (status : ℕ
   pub refused : asked_of words ≡ None
   pub unread : new.script ≡ old.script
   pub pairs_same : new.targets.pairs ≡ old.targets.pairs
-  pub told : Tells usage_text 2 old.targets.out new.targets.out status
+  pub told : Puts usage_text 2 old.targets.out new.targets.out status
 
 -- ---- the script
 
@@ -73,7 +73,7 @@ pub record TellsFault (script : List ℕ) (old new : Targets) (status : ℕ) : T
   pub cause : Cause
   pub fault : IsFault script line cause
   pub pairs_same : new.pairs ≡ old.pairs
-  pub told : MakesAndTells (fault_text line cause) 4 old.out new.out status
+  pub told : MakesAndPuts (fault_text line cause) 4 old.out new.out status
 
 -- the script is accepted, and its lines, those that are neither blank nor comments, end so
 pub record AcceptsScript (ends : List lang.Numbered → Targets → Targets → ℕ → Type 0)
@@ -94,13 +94,13 @@ Judges ends script old new status =
 -- the number of lines is told, with status 0, and no disk is touched
 pub record TellsCount (lines : List lang.Numbered) (old new : Targets) (status : ℕ) : Type 0 where
   pub pairs_same : new.pairs ≡ old.pairs
-  pub told : MakesAndTells (accepted_text (length lines)) 0 old.out new.out status
+  pub told : MakesAndPuts (accepted_text (length lines)) 0 old.out new.out status
 
 -- the generated script is told, with status 0; nothing is read, and no disk is touched
 pub record TellsLoad (count start : ℕ) (old new : Outside) (status : ℕ) : Type 0 where
   pub unread : new.script ≡ old.script
   pub pairs_same : new.targets.pairs ≡ old.targets.pairs
-  pub told : MakesAndTells (script_of count start) 0 old.targets.out new.targets.out status
+  pub told : MakesAndPuts (script_of count start) 0 old.targets.out new.targets.out status
 
 -- memory lacked to know what the words ask for: status 9, and nothing is touched
 pub record LacksForWords (old new : Outside) (status : ℕ) : Type 0 where

@@ -20,12 +20,12 @@ pub record LacksText (old new : StreamState) (status : ℕ) : Type 0 where
   pub silent : new ≡ old
 
 -- a text that is at hand was put, unless the sink failed
-abbrev pub Tells : List ℕ → (due : ℕ) → StreamState → StreamState → (status : ℕ) → Type 0
-Tells text due old new status = PutAll text due old new status ⊎ SinkFailed text old new status
+abbrev pub Puts : List ℕ → (due : ℕ) → StreamState → StreamState → (status : ℕ) → Type 0
+Puts text due old new status = PutAll text due old new status ⊎ SinkFailed text old new status
 
 -- a text was made and put, unless the sink failed or memory lacked
-abbrev pub MakesAndTells : List ℕ → (due : ℕ) → StreamState → StreamState → (status : ℕ) → Type 0
-MakesAndTells text due old new status = Tells text due old new status ⊎ LacksText old new status
+abbrev pub MakesAndPuts : List ℕ → (due : ℕ) → StreamState → StreamState → (status : ℕ) → Type 0
+MakesAndPuts text due old new status = Puts text due old new status ⊎ LacksText old new status
 
 -- the sink took bytes of which this holds
 abbrev pub Took : Option (List ℕ) → Option (List ℕ) → (List ℕ → Type 0) → Type 0

@@ -2,7 +2,7 @@
 ghost use Rattle.std.specs.Prelude.{◌≡◌, ◌≤◌};
 ghost use Rattle.load_gen.specs.Script.{script_of};
 ghost use Rattle.tool_jobs.specs.Outside.{stream};
-ghost use Rattle.tool_jobs.specs.Putting.{MakesAndTells, Tells};
+ghost use Rattle.tool_jobs.specs.Putting.{MakesAndPuts, Puts};
 
 use crate::ended::{ANSWERED, OUT_OF_MEMORY, SINK_FAILED};
 use load_gen::load_script;
@@ -14,7 +14,7 @@ const PIECE: usize = 65_536;
 
 /// Puts the generated script of so many lines, piece by piece. It is held once.
 pub fn generate<K: Sink>(alloc: Global, count: u32, start: u64, out: &mut K) -> u8
-    ensures told { MakesAndTells (script_of count start) 0 (stream K.held K.faults out.old)
+    ensures told { MakesAndPuts (script_of count start) 0 (stream K.held K.faults out.old)
         (stream K.held K.faults out.new) result }
     ensures later { K.faults out.old ≤ K.faults out.new }
 {
@@ -26,7 +26,7 @@ pub fn generate<K: Sink>(alloc: Global, count: u32, start: u64, out: &mut K) -> 
 
 // Puts a text in pieces.
 fn put_pieces<K: Sink>(text: &[u8], out: &mut K) -> u8
-    ensures told { Tells text.now 0 (stream K.held K.faults out.old)
+    ensures told { Puts text.now 0 (stream K.held K.faults out.old)
         (stream K.held K.faults out.new) result }
     ensures later { K.faults out.old ≤ K.faults out.new }
 {

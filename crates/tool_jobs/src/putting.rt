@@ -4,7 +4,7 @@ ghost use Rattle.std.specs.Prelude.{◌≡◌, ◌≤◌};
 ghost use Rattle.report_text.specs.Faults.{accepted_text, bad_image_text, fault_text, unbuilt_text};
 ghost use Rattle.report_text.specs.Faults.{wrong_pair_text};
 ghost use Rattle.tool_jobs.specs.Outside.{stream};
-ghost use Rattle.tool_jobs.specs.Putting.{MakesAndTells, Tells};
+ghost use Rattle.tool_jobs.specs.Putting.{MakesAndPuts, Puts};
 
 use crate::ended::{ANSWERED, IMAGE_REFUSED, OUT_OF_MEMORY, REFUSED, SINK_FAILED};
 use obj_model::Pool;
@@ -15,7 +15,7 @@ use tier_outside::Sink;
 
 /// Puts one text. The status is the one that is due where the sink takes it.
 pub fn tell<K: Sink>(text: &[u8], due: u8, out: &mut K) -> u8
-    ensures told { Tells text.now due (stream K.held K.faults out.old)
+    ensures told { Puts text.now due (stream K.held K.faults out.old)
         (stream K.held K.faults out.new) result }
     ensures later { K.faults out.old ≤ K.faults out.new }
 {
@@ -27,7 +27,7 @@ pub fn tell<K: Sink>(text: &[u8], due: u8, out: &mut K) -> u8
 
 /// Puts the fault of a script.
 pub fn tell_fault<K: Sink>(alloc: Global, line: u32, cause: Cause, out: &mut K) -> u8
-    ensures told { MakesAndTells (fault_text line cause) 4 (stream K.held K.faults out.old)
+    ensures told { MakesAndPuts (fault_text line cause) 4 (stream K.held K.faults out.old)
         (stream K.held K.faults out.new) result }
     ensures later { K.faults out.old ≤ K.faults out.new }
 {
@@ -40,7 +40,7 @@ pub fn tell_fault<K: Sink>(alloc: Global, line: u32, cause: Cause, out: &mut K) 
 
 /// Puts that the verb of a line is not built yet.
 pub fn tell_unbuilt<K: Sink>(alloc: Global, line: u32, out: &mut K) -> u8
-    ensures told { MakesAndTells (unbuilt_text line) 4 (stream K.held K.faults out.old)
+    ensures told { MakesAndPuts (unbuilt_text line) 4 (stream K.held K.faults out.old)
         (stream K.held K.faults out.new) result }
     ensures later { K.faults out.old ≤ K.faults out.new }
 {
@@ -53,7 +53,7 @@ pub fn tell_unbuilt<K: Sink>(alloc: Global, line: u32, out: &mut K) -> u8
 
 /// Puts that a script is accepted, with so many lines.
 pub fn tell_accepted<K: Sink>(alloc: Global, lines: u64, out: &mut K) -> u8
-    ensures told { MakesAndTells (accepted_text lines) 0 (stream K.held K.faults out.old)
+    ensures told { MakesAndPuts (accepted_text lines) 0 (stream K.held K.faults out.old)
         (stream K.held K.faults out.new) result }
     ensures later { K.faults out.old ≤ K.faults out.new }
 {
@@ -66,7 +66,7 @@ pub fn tell_accepted<K: Sink>(alloc: Global, lines: u64, out: &mut K) -> u8
 
 /// Puts that the disk of a group's pool holds no log of that pool.
 pub fn tell_bad_image<K: Sink>(alloc: Global, pool: Pool, group: u32, at: u64, out: &mut K) -> u8
-    ensures told { MakesAndTells (bad_image_text pool group at) 5
+    ensures told { MakesAndPuts (bad_image_text pool group at) 5
         (stream K.held K.faults out.old) (stream K.held K.faults out.new) result }
     ensures later { K.faults out.old ≤ K.faults out.new }
 {
@@ -86,7 +86,7 @@ pub fn tell_wrong_pair<K: Sink>(
     want: u64,
     out: &mut K,
 ) -> u8
-    ensures told { MakesAndTells (wrong_pair_text pool group found want) 5
+    ensures told { MakesAndPuts (wrong_pair_text pool group found want) 5
         (stream K.held K.faults out.old) (stream K.held K.faults out.new) result }
     ensures later { K.faults out.old ≤ K.faults out.new }
 {

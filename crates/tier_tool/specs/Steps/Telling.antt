@@ -7,9 +7,9 @@ use Rattle.obj_ops.specs.Stores.{Store}
 use Rattle.store_face.specs.Tables.{Table}
 use Rattle.store_face.specs.Views.{StoreView, Sound, Now, Holds}
 use Rattle.tier_tool.specs.Bases.{StandsFor}
-use Rattle.tier_tool.specs.Lines.{EndsAs, Ending, IsFront, IsLeft, LineSays, Said, Says, Standing}
-use Rattle.tier_tool.specs.Lines.{TellsFailure, said_text, standing, texts_of}
-use Rattle.tier_tool.specs.Lines.Said.{BadRecord, NoRoom}
+use Rattle.tier_tool.specs.Lines.{EndsAs, Ending, IsFront, IsLeft, AnswersLine, LineAnswer, AnswersLines, Standing}
+use Rattle.tier_tool.specs.Lines.{TellsFailure, line_answer_text, standing, texts_of}
+use Rattle.tier_tool.specs.Lines.LineAnswer.{BadRecord, NoRoom}
 use Rattle.tier_tool.specs.Tasks.{name_of}
 use Rattle.tier_tool.specs.Steps.Serving.{GoesOn, InDoubt, SameUnreadable}
 use Rattle.tier_tool.specs.declared.base.LineFault.{LineFault}
@@ -22,17 +22,17 @@ use Rattle.tier_tool.specs.declared.task.Numbered.{Numbered}
 
 -- This is said of a line over what stands before it, and the map stands for the plain store behind
 -- it, with so many acts; what is used of the room is what the store counts.
-pub record SaysLine (t : Table) (room : ℕ) (p : Standing) (n : Numbered) (s : Said) (acts : ℕ)
+pub record SaysLine (t : Table) (room : ℕ) (p : Standing) (n : Numbered) (s : LineAnswer) (acts : ℕ)
     (new : LogView) : Type 0 where
   pub behind : Standing
-  pub says : LineSays t room p n s behind
+  pub says : AnswersLine t room p n s behind
   pub counted : behind.plain.acts ≡ acts
   pub taken : behind.used ≡ new.used
   pub stands : Holds (store_of new) (λ u. StandsFor u behind.plain.store)
 
 -- This is said of a line, whichever plain store with so many acts the map stands for, in the
 -- store's room. The same names are unreadable behind it.
-pub record IsSaid (n : Numbered) (s : Said) (before acts : ℕ) (old new : LogView) : Type 0 where
+pub record IsSaid (n : Numbered) (s : LineAnswer) (before acts : ℕ) (old new : LogView) : Type 0 where
   pub live : new.live ≡ true
   pub unreadable : Holds (store_of old) (λ t. Holds (store_of new) (SameUnreadable t))
   pub from : Holds (store_of old) (λ t. (p : Standing) → p.plain.acts ≡ before
@@ -57,22 +57,22 @@ IsInWords (Err lacking) result = result ≡ Err unsaid.Unwritten
 -- why a line was not carried out was put into words behind a text, or nothing is said of it
 abbrev pub SaysFault : Numbered → LineFault → List ℕ → List ℕ → Result (Unit {0}) Unsaid → Type 0
 SaysFault n (line.NoSpace used need limit) old new result =
-    IsWritten (new ≡ old ++ said_text (NoRoom n.number used need limit)) result
+    IsWritten (new ≡ old ++ line_answer_text (NoRoom n.number used need limit)) result
 SaysFault n line.BadRecord old new result =
-    IsWritten (new ≡ old ++ said_text (BadRecord n.number (name_of n.line))) result
+    IsWritten (new ≡ old ++ line_answer_text (BadRecord n.number (name_of n.line))) result
 SaysFault n line.Disk old new result = result ≡ Err unsaid.Disk
 SaysFault n line.NoMemory old new result = result ≡ Err unsaid.NoMemory
 
 -- this is said of a line, and a text is what is said
 pub record Words (n : Numbered) (before acts : ℕ) (old new : LogView) (text : List ℕ)
     : Type 0 where
-  pub said : Said
-  pub text_is : text ≡ said_text said
+  pub said : LineAnswer
+  pub text_is : text ≡ line_answer_text said
   pub is : IsSaid n said before acts old new
 
 -- something is said of a line
 pub record HasSaid (n : Numbered) (before acts : ℕ) (old new : LogView) : Type 0 where
-  pub said : Said
+  pub said : LineAnswer
   pub is : IsSaid n said before acts old new
 
 -- A line was carried out, and put into words; or memory lacked for the words; or the disk failed in
@@ -91,16 +91,16 @@ SayEnds n before acts old new text (Err unsaid.NoMemory) disk_rose =
 -- the sink failed at what is said of a line: status 8
 pub record IsUnheard (n : Numbered) (before acts : ℕ) (old new : LogView) (sink_rose : Type 0)
     (put : List ℕ) (status : ℕ) : Type 0 where
-  pub said : Said
+  pub said : LineAnswer
   pub is : IsSaid n said before acts old new
   pub ended : status ≡ 8
   pub cause : sink_rose
-  pub front : IsFront put (said_text said)
+  pub front : IsFront put (line_answer_text said)
 
 -- memory lacked for the text of a line: status 9
 pub record IsUnwritten (n : Numbered) (before acts : ℕ) (old new : LogView) (put : List ℕ)
     (status : ℕ) : Type 0 where
-  pub said : Said
+  pub said : LineAnswer
   pub is : IsSaid n said before acts old new
   pub ended : status ≡ 9
   pub silent : put ≡ []
@@ -134,9 +134,9 @@ TellsLine n before acts old new disk_rose sink_rose put (Err status) =
 -- what was said so far, in so much room, from a map that stands for a store, over the lines that
 -- are no longer left
 pub record SaysSoFar (t : Table) (room : ℕ) (from : Standing) (lines left : List Numbered)
-    (said : List Said) (acts : ℕ) (now : LogView) : Type 0 where
+    (said : List LineAnswer) (acts : ℕ) (now : LogView) : Type 0 where
   pub behind : Standing
-  pub says : Says t room from lines said left behind
+  pub says : AnswersLines t room from lines said left behind
   pub counted : behind.plain.acts ≡ acts
   pub taken : behind.used ≡ now.used
   pub stands : Holds (store_of now) (λ u. StandsFor u behind.plain.store)
@@ -144,7 +144,7 @@ pub record SaysSoFar (t : Table) (room : ℕ) (from : Standing) (lines left : Li
 -- the lines but those that are left were carried out and told
 pub record ToldSoFar (lines left : List Numbered) (acts : ℕ) (old now : LogView) (put : List ℕ)
     : Type 0 where
-  pub said : List Said
+  pub said : List LineAnswer
   pub put_is : put ≡ texts_of said
   pub live : now.live ≡ true
   pub sound : Sound (store_of now)
@@ -156,9 +156,9 @@ pub record ToldSoFar (lines left : List Numbered) (acts : ℕ) (old now : LogVie
 
 -- lines were said in so much room from a map that stands for a store, with so much of the room used
 pub record SaysFrom (t : Table) (room : ℕ) (from : Standing) (lines : List Numbered)
-    (said : List Said) (left : List Numbered) (ending : Ending) (new : StoreView) : Type 0 where
+    (said : List LineAnswer) (left : List Numbered) (ending : Ending) (new : StoreView) : Type 0 where
   pub now : Standing
-  pub says : Says t room from lines said left now
+  pub says : AnswersLines t room from lines said left now
   pub before : Now new (λ s. IsLeft now ending s.before)
   pub after_ : Now new (λ s. IsLeft now ending s.after)
 
@@ -166,7 +166,7 @@ pub record SaysFrom (t : Table) (room : ℕ) (from : Standing) (lines : List Num
 -- was put, and the status.
 pub record TellsLines (lines : List Numbered) (old new : LogView) (disk_rose sink_rose : Type 0)
     (put : List ℕ) (status : ℕ) : Type 0 where
-  pub said : List Said
+  pub said : List LineAnswer
   pub left : List Numbered
   pub ending : Ending
   pub ends : EndsAs disk_rose sink_rose said left ending put status

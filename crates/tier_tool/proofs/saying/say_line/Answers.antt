@@ -1,5 +1,5 @@
 use Rattle.std.proofs.Common.{◌+◌, ap}
-use Rattle.tier_tool.proofs.Said.{answer_said, fault_said}
+use Rattle.tier_tool.proofs.LineAnswer.{answer_said, fault_said}
 use Rattle.tier_tool.proofs.saying.say_line.Goals as goal
 
 pub returns-in-Ok-clause-said : goal.returns-in-Ok-clause-said

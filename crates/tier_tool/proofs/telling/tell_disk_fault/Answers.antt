@@ -1,6 +1,6 @@
 use Rattle.std.proofs.Common.{[], ◌++◌, inl, inr, refl, ap, ◌∙◌}
 use Rattle.tier_tool.specs.Lines.{disk_fault_text}
-use Rattle.tier_tool.proofs.Said.{tells_failure}
+use Rattle.tier_tool.proofs.LineAnswer.{tells_failure}
 use Rattle.tool_jobs.proofs.Told.{gains_none}
 use Rattle.tier_tool.proofs.telling.tell_disk_fault.Goals as goal
 

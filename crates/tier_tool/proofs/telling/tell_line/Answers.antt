@@ -1,6 +1,6 @@
 use Rattle.std.proofs.Common.{[], take, inl, inr, refl, sym, subst}
 use Rattle.tier_tool.specs.Steps.Telling.{Words}
-use Rattle.tier_tool.proofs.Said.{unheard_is, unwritten_is}
+use Rattle.tier_tool.proofs.LineAnswer.{unheard_is, unwritten_is}
 use Rattle.tool_jobs.proofs.Told.{gains_none}
 use Rattle.tier_tool.proofs.telling.tell_line.Goals as goal
 

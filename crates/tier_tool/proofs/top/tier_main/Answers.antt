@@ -1,6 +1,6 @@
 use Rattle.std.proofs.Common.{Err, ap, inl, inr, refl, subst}
 use Rattle.tool_jobs.specs.Outside.{stream}
-use Rattle.tool_jobs.specs.Putting.{Tells}
+use Rattle.tool_jobs.specs.Putting.{Puts}
 use Rattle.tier_tool.proofs.top.tier_main.Goals as goal
 
 pub returns-in-Err-Refused-clause-ran : goal.returns-in-Err-Refused-clause-ran
@@ -11,6 +11,6 @@ returns-in-Err-Refused-clause-ran g c =
       refused = c.in-Err-Refused.ensures.refused (ap Err c.in-Err-Refused.field-0-is);
       unread = refl;
       pairs_same = refl;
-      told = subst (λ text. Tells text 2 before after c.tell.result) c.as_bytes.ensures.value
+      told = subst (λ text. Puts text 2 before after c.tell.result) c.as_bytes.ensures.value
           c.tell.ensures.told;
     }))

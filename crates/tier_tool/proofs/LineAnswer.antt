@@ -16,9 +16,9 @@ use Rattle.tier_outside.specs.Moments.{last}
 use Rattle.tier_outside.specs.Streams.{StreamState}
 use Rattle.tier_tool.specs.Bases.{HasRoom, IsUnreadable, StandsFor}
 use Rattle.tier_tool.specs.Costs.{cost}
-use Rattle.tier_tool.specs.Lines.{LineSays, Said, Standing, TellsFailure, behind_line}
-use Rattle.tier_tool.specs.Lines.{disk_fault_text, said_text}
-use Rattle.tier_tool.specs.Lines.Said.{Given, NoRoom, BadRecord}
+use Rattle.tier_tool.specs.Lines.{AnswersLine, LineAnswer, Standing, TellsFailure, behind_line}
+use Rattle.tier_tool.specs.Lines.{disk_fault_text, line_answer_text}
+use Rattle.tier_tool.specs.Lines.LineAnswer.{Given, NoRoom, BadRecord}
 use Rattle.tier_tool.specs.Plain.{after}
 use Rattle.tier_tool.specs.Steps.Serving.{IsAnswered, LineEnds, LineUses, SameUnreadable, WouldAct}
 use Rattle.tier_tool.specs.Steps.Serving.{TakesCost, acts_more}
@@ -31,7 +31,7 @@ use Rattle.tier_tool.specs.declared.base.LineFault.TheVariants as fault
 use Rattle.tier_tool.specs.declared.saying.Unsaid.{Unsaid}
 use Rattle.tier_tool.specs.declared.saying.Unsaid.TheVariants as unsaid
 use Rattle.tier_tool.specs.declared.task.Numbered.{Numbered}
-use Rattle.tool_jobs.specs.Putting.{Tells, Took}
+use Rattle.tool_jobs.specs.Putting.{Puts, Took}
 use Rattle.tier_tool.proofs.Views.{At, now_same, now_two, now_weaker}
 
 -- ---- one line
@@ -73,15 +73,15 @@ same_map None b P same each = tt
 same_map (Some ss) b P same each = now_same (Some ss) b (λ s. P (last no_map ss).before.table s.before.table) (sym same) (each (last no_map ss).before.table)
 
 -- a line of which this is said changed nothing
-unchanged_is : (n : Numbered) (s : Said) (acts : ℕ) (old new : LogView) → old.live ≡ true → Stays (store_of old) (store_of new) → new.used ≡ old.used
-    → Holds (store_of old) (λ t. (p : Standing) → p.used ≡ old.used → StandsFor t p.plain.store → LineSays t old.room p n s p) → IsSaid n s acts acts old new
+unchanged_is : (n : Numbered) (s : LineAnswer) (acts : ℕ) (old new : LogView) → old.live ≡ true → Stays (store_of old) (store_of new) → new.used ≡ old.used
+    → Holds (store_of old) (λ t. (p : Standing) → p.used ≡ old.used → StandsFor t p.plain.store → AnswersLine t old.room p n s p) → IsSaid n s acts acts old new
 unchanged_is n s acts old new live stays used says = record {
   live = stays.live ∙ live;
   unreadable = same_map old.moments new.moments SameUnreadable stays.moments (λ t name. (λ un. un, λ un. un));
   from = from old.moments stays.moments says;
 }
   where
-    from : (a : Option (List CrashMaps)) → new.moments ≡ a → At a (λ was. (p : Standing) → p.used ≡ old.used → StandsFor was.before.table p.plain.store → LineSays was.before.table old.room p n s p)
+    from : (a : Option (List CrashMaps)) → new.moments ≡ a → At a (λ was. (p : Standing) → p.used ≡ old.used → StandsFor was.before.table p.plain.store → AnswersLine was.before.table old.room p n s p)
         → At a (λ was. (p : Standing) → p.plain.acts ≡ acts → p.used ≡ old.used → StandsFor was.before.table p.plain.store → SaysLine was.before.table old.room p n s acts new)
     from None same says = tt
     from (Some ss) same says =
@@ -98,7 +98,7 @@ no_room_is : (n : Numbered) (used more limit acts : ℕ) (old new : LogView) →
 no_room_is n used more limit acts old new live h uses =
     unchanged_is n (NoRoom n.number used more limit) acts old new live h.2 uses.3
     (now_two old.moments (λ s. WouldAct n.line s.before.table) (λ s. (store : Store) → StandsFor s.before.table store → more ≡ cost store n.line)
-    (λ s. (p : Standing) → p.used ≡ old.used → StandsFor s.before.table p.plain.store → LineSays s.before.table old.room p n (NoRoom n.number used more limit) p)
+    (λ s. (p : Standing) → p.used ≡ old.used → StandsFor s.before.table p.plain.store → AnswersLine s.before.table old.room p n (NoRoom n.number used more limit) p)
     (λ s is costs p taken stands. (
       is.0,
       is.1 p.plain.store stands,
@@ -115,7 +115,7 @@ bad_record_is : (n : Numbered) (name : List ℕ) (acts : ℕ) (old new : LogView
 bad_record_is n name acts old new same live h uses =
     unchanged_is n (BadRecord n.number name) acts old new live h.1 uses
     (now_weaker old.moments (λ s. IsUnreadable s.before.table (name_of n.line))
-    (λ s. (p : Standing) → p.used ≡ old.used → StandsFor s.before.table p.plain.store → LineSays s.before.table old.room p n (BadRecord n.number name) p)
+    (λ s. (p : Standing) → p.used ≡ old.used → StandsFor s.before.table p.plain.store → AnswersLine s.before.table old.room p n (BadRecord n.number name) p)
     (λ s is p taken stands. (subst (IsUnreadable s.before.table) (sym same) is, refl, same, refl)) h.0)
 
 -- a text was written, unless memory lacked
@@ -126,12 +126,12 @@ is_written P (Ok done) result is h = subst (IsWritten P) (sym is) h
 is_written P (Err lacking) result is h = subst (IsWritten P) (sym is) tt
 
 -- what is said of a line was written
-written_is : (n : Numbered) (s : Said) (before acts : ℕ) (old new : LogView)
+written_is : (n : Numbered) (s : LineAnswer) (before acts : ℕ) (old new : LogView)
     (cleared text : List ℕ) (result : Result (Unit {0}) Unsaid) (disk_rose : Type 0)
-    → cleared ≡ [] → IsWritten (text ≡ cleared ++ said_text s) result → IsSaid n s before acts old new
+    → cleared ≡ [] → IsWritten (text ≡ cleared ++ line_answer_text s) result → IsSaid n s before acts old new
     → SayEnds n before acts old new text result disk_rose
 written_is n s before acts old new cleared text (Ok done) rose empty is said =
-    record { said = s; text_is = is ∙ ap (λ w. w ++ said_text s) empty; is = said }
+    record { said = s; text_is = is ∙ ap (λ w. w ++ line_answer_text s) empty; is = said }
 written_is n s before acts old new cleared text (Err unsaid.Disk) rose empty is said = absurd is
 written_is n s before acts old new cleared text (Err unsaid.NoMemory) rose empty is said = absurd is
 written_is n s before acts old new cleared text (Err unsaid.Unwritten) rose empty is said =
@@ -150,7 +150,7 @@ answer_said n a acted before acts old new cleared text written result rose empty
     text_is =
     let s = Given (record { number = n.number; answer = a; place = acts }) in
     written_is n s before acts old new cleared text result rose empty
-    (is_written (text ≡ cleared ++ said_text s) written result is text_is)
+    (is_written (text ≡ cleared ++ line_answer_text s) written result is text_is)
     (given_is n a acted before acts old new counted h uses)
 
 -- a line was not carried out, and why was put into words
@@ -199,7 +199,7 @@ unwritten_is n before acts old new h =
 
 -- that the disk failed in a line was told, or the sink failed in it
 pub tells_failure : (n : Numbered) (text : List ℕ) (old new : StreamState) (status : ℕ)
-    → text ≡ disk_fault_text n.number → Tells text 6 old new status
+    → text ≡ disk_fault_text n.number → Puts text 6 old new status
     → Took old.bytes new.bytes (λ put. TellsFailure (Rose old.faults new.faults) n put status)
 tells_failure n text old new status is (inl all) = (text, all.all, inl (all.ended, inl is))
 tells_failure n text old new status is (inr failed) =
