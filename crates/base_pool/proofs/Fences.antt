@@ -21,7 +21,7 @@ use Rattle.base_pool.specs.Serves.{Commits, HasFor, IsSpelled, Makes, Serves, ch
 use Rattle.base_pool.specs.Steps.{base_of, refused_by}
 use Rattle.base_pool.specs.declared.fault.BaseFault.TheVariants.{Store}
 use Rattle.base_pool.proofs.Acting.{needs, refused_serves, unless_all}
-use Rattle.base_pool.proofs.Later.{stays_same}
+use Rattle.store_face.proofs.Later.{stays_same}
 use Rattle.base_pool.proofs.Readings.{no_raise, own_answers}
 
 -- a Fence of no lower epoch is taken

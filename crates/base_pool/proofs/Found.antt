@@ -19,7 +19,7 @@ use Rattle.base_pool.specs.Serves.{IsUnreadable}
 use Rattle.base_pool.specs.Steps.{Finds}
 use Rattle.base_pool.specs.Views.{IsAt}
 use Rattle.base_pool.specs.declared.fault.BaseFault.TheVariants.{Store, BadRecord}
-use Rattle.base_pool.proofs.Later.{stays_same}
+use Rattle.store_face.proofs.Later.{stays_same}
 
 -- what holds of the value that was read holds of the map's
 at_key : (v : StoreView) (key place : List ℕ) (P : Option (List ℕ) → Type 0) (value : Option (List ℕ)) → key ≡ place

@@ -17,7 +17,7 @@ use Rattle.store_face.specs.declared.fault.StoreFault.{StoreFault}
 use Rattle.store_face.specs.declared.fault.StoreFault.TheVariants as store
 use Rattle.base_pool.specs.Serves.{state_put}
 use Rattle.base_pool.specs.Steps.{Spells}
-use Rattle.base_pool.proofs.Later.{stays_same}
+use Rattle.store_face.proofs.Later.{stays_same}
 
 -- one value is a transaction
 one_put : (key value : List ℕ) → IsStoreKey key → length value ≤ 16777216 → IsTxn (Put key value ∷ [])

@@ -29,7 +29,7 @@ use Rattle.base_pool.specs.Steps.{base_of}
 use Rattle.base_pool.specs.Views.{BaseView, IsAt, IsLive, SoundBase}
 use Rattle.base_pool.specs.declared.fault.BaseFault.{BaseFault}
 use Rattle.base_pool.specs.declared.fault.BaseFault.TheVariants.{Store, BadRecord}
-use Rattle.base_pool.proofs.Later.{holds_on}
+use Rattle.store_face.proofs.Later.{holds_on}
 
 -- ---- one key
 

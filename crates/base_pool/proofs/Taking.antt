@@ -12,7 +12,7 @@ use Rattle.tier_types.specs.declared.message.BaseReply.{BaseReply}
 use Rattle.base_pool.specs.Serves.{Answers, IsSpelled, Makes, Serves, is_taken, state_put}
 use Rattle.base_pool.specs.Steps.{base_of, refusal, refused_epoch}
 use Rattle.base_pool.specs.declared.fault.BaseFault.{BaseFault}
-use Rattle.base_pool.proofs.Later.{stays_same}
+use Rattle.store_face.proofs.Later.{stays_same}
 use Rattle.base_pool.proofs.Readings.{own_changes}
 
 -- ---- taken

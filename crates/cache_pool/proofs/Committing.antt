@@ -15,7 +15,7 @@ use Rattle.store_face.specs.declared.fault.StoreFault.{StoreFault}
 use Rattle.store_face.specs.declared.fault.StoreFault.TheVariants as store
 use Rattle.tier_types.specs.declared.record.TierRec.{TierRec}
 use Rattle.cache_pool.specs.Puts.{Commits, IsOver, IsSpelled, Outcome, epoch_put, record_bytes, record_gone, record_put}
-use Rattle.cache_pool.proofs.Found.{stays_same}
+use Rattle.store_face.proofs.Later.{stays_same}
 
 -- ---- the numbers of a want of room
 

@@ -1,12 +1,12 @@
 -- What was read under a key of the cache.
-use Rattle.std.proofs.Common.{◌≡◌, ◌≤◌, ℕ, List, [], Option, None, Some, Ok, Err, refl, sym, ap, subst, ◌∙◌, arith}
+use Rattle.std.proofs.Common.{◌≡◌, ◌≤◌, ℕ, List, Option, None, Some, Ok, Err, refl, sym, ap, subst, ◌∙◌, arith}
 use Rattle.std.specs.FinMap as fin
 use Rattle.std.specs.Option.{IfNone}
 use Rattle.tier_outside.proofs.Moments.{now_weaker}
 use Rattle.pool_keys.specs.Keys.{epoch_key, record_key}
 use Rattle.pool_keys.specs.Values.{IsEpochOf, IsRecOf, SpellsEpoch}
 use Rattle.rec_codec.specs.Spelling.{SpellsParts, SpellsTier, TierParts}
-use Rattle.store_face.specs.Calls.{Got, Stays}
+use Rattle.store_face.specs.Calls.{Got}
 use Rattle.store_face.specs.Tables.{Table}
 use Rattle.store_face.specs.Views.{Holds, StoreView, no_map}
 use Rattle.store_face.specs.declared.fault.StoreFault.{StoreFault}
@@ -15,9 +15,7 @@ use Rattle.tier_types.specs.declared.record.TierRec.{TierRec}
 use Rattle.cache_pool.specs.Reads.{HasNoEpoch, IsUnreadable, ReadsEpoch, ReadsRecord}
 use Rattle.cache_pool.specs.Steps.{Decodes}
 use Rattle.cache_pool.specs.declared.fault.CacheFault.TheVariants.{Store, BadRecord}
-
-pub stays_same : (v : StoreView) → Stays v v
-stays_same v = record { moments = refl; live = refl; room = refl; used = refl; later = omega arith }
+use Rattle.store_face.proofs.Later.{stays_same}
 
 -- what holds of the value that was read holds of the map's
 at_key : (v : StoreView) (key place : List ℕ) (P : Option (List ℕ) → Type 0)

@@ -17,7 +17,8 @@ use Rattle.pool_survey.specs.Steps.{IsPassed, IsThere, Moves, Shows, place}
 use Rattle.pool_survey.specs.declared.base.BaseRun.{BaseRun}
 use Rattle.pool_survey.specs.declared.fault.SurveyFault.{SurveyFault}
 use Rattle.pool_survey.specs.declared.fault.SurveyFault.TheVariants as fault
-use Rattle.pool_survey.proofs.Later.{also, always, holds_back, holds_on, read_fails_later, stays_same, stays_twice, weaker}
+use Rattle.pool_survey.proofs.Later.{also, always, read_fails_later, weaker}
+use Rattle.store_face.proofs.Later.{holds_back, holds_on, stays_same, stays_twice}
 use Rattle.pool_survey.proofs.Orders.{Key, not_itself}
 use Rattle.pool_survey.proofs.Places.{page_start, right_next, right_start, said_here, said_last, said_next, said_start, wrong_next}
 

@@ -20,7 +20,8 @@ use Rattle.pool_survey.specs.declared.cache.Read.TheVariants as read
 use Rattle.pool_survey.specs.declared.fault.SurveyFault.{SurveyFault}
 use Rattle.pool_survey.specs.declared.fault.SurveyFault.TheVariants as fault
 use Rattle.pool_survey.specs.declared.told.Survey.{Survey}
-use Rattle.pool_survey.proofs.Later.{also, always, both_twice, holds_back, holds_on, read_fails_later, stays_same, stays_twice, weaker}
+use Rattle.pool_survey.proofs.Later.{also, always, both_twice, read_fails_later, weaker}
+use Rattle.store_face.proofs.Later.{holds_back, holds_on, stays_same, stays_twice}
 use Rattle.pool_survey.proofs.Orders.{Key, above_more}
 use Rattle.pool_survey.proofs.Together.{Beside, fit_more, still_behind}
 

@@ -18,7 +18,8 @@ use Rattle.pool_survey.specs.declared.cache.Read.{Read}
 use Rattle.pool_survey.specs.declared.cache.Read.TheVariants as read
 use Rattle.pool_survey.specs.declared.fault.SurveyFault.{SurveyFault}
 use Rattle.pool_survey.specs.declared.fault.SurveyFault.TheVariants as fault
-use Rattle.pool_survey.proofs.Later.{also, always, holds_on, weaker}
+use Rattle.pool_survey.proofs.Later.{also, always, weaker}
+use Rattle.store_face.proofs.Later.{holds_on}
 use Rattle.pool_survey.proofs.Orders.{Key}
 use Rattle.pool_survey.proofs.Places.{page_start, right_next, right_start, said_here, said_next, said_start, wrong_next}
 use Rattle.pool_survey.proofs.Summing.{sums_epoch, sums_record, sums_start}

@@ -8,7 +8,8 @@ use Rattle.store_face.specs.declared.fault.StoreFault.{StoreFault}
 use Rattle.pool_survey.specs.Places.{IsLast, IsNext, IsPage, is_within}
 use Rattle.pool_survey.specs.Steps.{Advances, IsPageRead, Moves, ReadsPage, Refills, Takes, place}
 use Rattle.pool_survey.specs.declared.cursor.Cursor.{Cursor}
-use Rattle.pool_survey.proofs.Later.{holds_back, read_fails_later, stays_same, stays_twice, weaker}
+use Rattle.pool_survey.proofs.Later.{read_fails_later, weaker}
+use Rattle.store_face.proofs.Later.{holds_back, stays_same, stays_twice}
 use Rattle.pool_survey.proofs.Orders.{Key}
 use Rattle.pool_survey.proofs.Places.{page_last, page_read, page_taken}
 

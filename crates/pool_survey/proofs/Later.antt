@@ -1,33 +1,14 @@
 -- A call of a store behind one that changed nothing.
-use Rattle.std.proofs.Common.{◌≤◌, ℕ, List, Option, None, Some, refl, sym, ◌∙◌, arith}
-use Rattle.tier_outside.specs.Causes.{Rose}
+use Rattle.std.proofs.Common.{◌≤◌, List, Option, None, Some, ◌∙◌}
 use Rattle.tier_outside.specs.Moments as moments
-use Rattle.tier_outside.proofs.Moments.{now_same, now_two, now_weaker}
+use Rattle.tier_outside.proofs.Moments.{now_two, now_weaker}
 use Rattle.store_face.specs.Calls.{Fails, ReadFails, Stays}
 use Rattle.store_face.specs.Tables.{Table}
 use Rattle.store_face.specs.Views.{CrashMaps, Holds, StoreView, no_map}
 use Rattle.store_face.specs.declared.fault.StoreFault.{StoreFault}
 use Rattle.store_face.specs.declared.fault.StoreFault.TheVariants.{Disk, BadImage, NoSpace, Worn, NoMemory}
 use Rattle.pool_survey.specs.Surveys.{BothStay}
-
-pub stays_same : (v : StoreView) → Stays v v
-stays_same v = record { moments = refl; live = refl; room = refl; used = refl; later = omega arith }
-
-pub stays_twice : (a b c : StoreView) → Stays a b → Stays b c → Stays a c
-stays_twice a b c h k = record {
-  moments = k.moments ∙ h.moments;
-  live = k.live ∙ h.live;
-  room = k.room ∙ h.room;
-  used = k.used ∙ h.used;
-  later = omega (arith, h.later, k.later);
-}
-
--- what a map has it has still
-pub holds_on : (a b : StoreView) (P : Table → Type 0) → Stays a b → Holds a P → Holds b P
-holds_on a b P h now = now_same no_map a.moments b.moments (λ s. P s.before.table) (sym h.moments) now
-
-pub holds_back : (a b : StoreView) (P : Table → Type 0) → Stays a b → Holds b P → Holds a P
-holds_back a b P h now = now_same no_map b.moments a.moments (λ s. P s.before.table) h.moments now
+use Rattle.store_face.proofs.Later.{fails_later, stays_twice}
 
 pub weaker : (v : StoreView) (P Q : Table → Type 0) → ((t : Table) → P t → Q t) → Holds v P → Holds v Q
 weaker v P Q follows now = now_weaker no_map v.moments (λ s. P s.before.table) (λ s. Q s.before.table) (λ s p. follows s.before.table p) now
@@ -43,20 +24,6 @@ always_by (Some ss) P all = all (moments.last no_map ss).before.table
 -- what holds of every map holds of the store's
 pub always : (v : StoreView) (P : Table → Type 0) → ((t : Table) → P t) → Holds v P
 always v P all = always_by v.moments P all
-
-rose_later : (a b c : ℕ) → a ≤ b → Rose b c → Rose a c
-rose_later a b c h k = omega arith
-
-pub fails_later : (a b c : StoreView) → Stays a b → Fails b c → Fails a c
-fails_later a b c h k = record {
-  closes = record {
-    live = k.closes.live;
-    room = k.closes.room ∙ h.room;
-    used = k.closes.used ∙ h.used;
-    later = omega (arith, h.later, k.closes.later);
-  };
-  rose = rose_later a.faults b.faults c.faults h.later k.rose;
-}
 
 pub read_fails_later : (a b c : StoreView) (f : StoreFault) → Stays a b → ReadFails f b c → ReadFails f a c
 read_fails_later a b c Disk h k = (fails_later a b c h k.0, k.1 ∙ h.moments)

@@ -62,7 +62,7 @@ state_behind : (o : Option (List ℕ)) (seq : ℕ) (base : NameState) → HasSta
 state_behind None seq base has is = absurd has
 state_behind (Some bytes) seq base has is = sym has.2 ∙ ap (λ s. s.seq) (state_one (Some bytes) has.0 base has.1 is)
 
-not_without : (pool : Pool) (start : Store) (m : Memory) (z : TwoMaps) (name : Name) (seq : ℕ) → ShowsIn pool name seq (map_in pool z) → seq ≡ (state_of (replay start m.acts) name).seq + 1 → Spells start m z → ⊥
+pub not_without : (pool : Pool) (start : Store) (m : Memory) (z : TwoMaps) (name : Name) (seq : ℕ) → ShowsIn pool name seq (map_in pool z) → seq ≡ (state_of (replay start m.acts) name).seq + 1 → Spells start m z → ⊥
 not_without Cache start m z name seq shows next h =
     let same = record_behind (fin.get z.cache (record_key name)) (fin.get h.recs name) seq (state_of (replay start m.acts) name) shows (h.cached.each name) (h.sound.names name).shows in
     absurd (omega (arith, same, next))

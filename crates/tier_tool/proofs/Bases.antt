@@ -20,7 +20,7 @@ use Rattle.tier_tool.specs.Costs.{state_key}
 use Rattle.tier_tool.specs.Bases.{IsSpelled, StandsFor, IsUnreadable}
 use Rattle.tier_tool.specs.Steps.Serving.{SameUnreadable}
 use Rattle.tier_tool.specs.Steps.Pools.{IsStateOf, Has, IsWith}
-use Rattle.tier_tool.proofs.Lengths.{spelling_short}
+use Rattle.rec_codec.proofs.Lengths.{state_short}
 
 some_is : (a b : List ℕ) → Some a ≡ Some b → a ≡ b
 some_is a b e = cc
@@ -94,6 +94,6 @@ pub put_lawful : (name key value bytes : List ℕ) (s : NameState) → name_faul
 put_lawful name key value bytes s named e f h = record {
   some = omega arith;
   few = omega arith;
-  each = rw e (rw f (All-cons IsChange (Put (state_key name) bytes) [] ((omega arith, omega (arith, name_short name named)), spelling_short bytes s h) (All-nil IsChange)));
+  each = rw e (rw f (All-cons IsChange (Put (state_key name) bytes) [] ((omega arith, omega (arith, name_short name named)), state_short bytes s h) (All-nil IsChange)));
   apart = (tt, tt);
 }

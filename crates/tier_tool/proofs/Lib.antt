@@ -1,7 +1,6 @@
 pub mod Bases
 pub mod Going
 pub mod Lawful
-pub mod Lengths
 pub mod LinesTold
 pub mod Next
 pub mod Ordered

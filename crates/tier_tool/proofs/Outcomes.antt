@@ -34,7 +34,8 @@ use Rattle.tier_chron.specs.declared.answer.Answer.{Answer}
 use Rattle.tier_tool.specs.declared.base.LineFault.{LineFault}
 use Rattle.tier_tool.specs.declared.base.LineFault.TheVariants as fault
 use Rattle.tier_tool.proofs.Bases.{has_readable, has_state, stands_put, unreadable_put}
-use Rattle.tier_tool.proofs.Pools.{At, fails_later, now_two, now_same, now_weaker, stays_twice}
+use Rattle.tier_tool.proofs.Pools.{At, now_two, now_same, now_weaker}
+use Rattle.store_face.proofs.Later.{fails_later, stays_twice}
 
 -- ---- a state that was looked up
 

@@ -12,35 +12,12 @@ use Rattle.store_face.specs.Rooms.{Lack, record_size}
 use Rattle.store_face.specs.Rooms.Room.{LogRoom}
 use Rattle.store_face.specs.Tables.{Table, changed_by}
 use Rattle.store_face.specs.Views.{Durable, Holds, IsBehind, IsOne, Now, Sound, StoreView, no_map}
-use Rattle.store_face.specs.Calls.{Between, Both, Committed, Fails, Stays}
+use Rattle.store_face.specs.Calls.{Between, Both, Committed}
 use Rattle.store_face.specs.declared.fault.StoreFault.{StoreFault}
 use Rattle.store_face.specs.declared.fault.StoreFault.TheVariants as store
-use Rattle.tool_jobs.proofs.Told.{rose_later}
 pub use Rattle.tier_tool.proofs.Views.{At, now_same, now_two, now_weaker}
 use Rattle.tier_tool.specs.Costs.{change_of, state_key}
 use Rattle.tier_tool.specs.Steps.Pools.{PutUses, line_fault, IsWith, IsTorn, WasPut, WithOrWithout}
-
--- a call that changed nothing, and one that did not either
-pub stays_twice : (a b c : StoreView) → Stays a b → Stays b c → Stays a c
-stays_twice a b c h k = record {
-  moments = k.moments ∙ h.moments;
-  live = k.live ∙ h.live;
-  room = k.room ∙ h.room;
-  used = k.used ∙ h.used;
-  later = omega (arith, h.later, k.later);
-}
-
--- a call that changed nothing, and one in which the disk failed
-pub fails_later : (a b c : StoreView) → Stays a b → Fails b c → Fails a c
-fails_later a b c h k = record {
-  closes = record {
-    live = k.closes.live;
-    room = k.closes.room ∙ h.room;
-    used = k.closes.used ∙ h.used;
-    later = omega (arith, h.later, k.closes.later);
-  };
-  rose = rose_later a.faults b.faults c.faults h.later k.rose;
-}
 
 -- ---- a state is put
 

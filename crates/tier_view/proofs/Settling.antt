@@ -7,12 +7,7 @@ use Rattle.agent_state.specs.declared.totals.Totals.{Totals}
 use Rattle.obj_model.specs.declared.change.Pool.{Pool}
 use Rattle.obj_model.specs.declared.change.Pool.TheVariants.{Base, Cache}
 use Rattle.obj_model.specs.declared.req.Req.{Req}
-use Rattle.obj_model.specs.declared.state.NameState.{NameState}
-use Rattle.obj_ops.specs.Stores.{Store, replay, state_of}
-use Rattle.pool_keys.specs.Keys.{record_key, state_key}
-use Rattle.pool_keys.specs.Values.{IsRecOf, IsStateOf}
-use Rattle.pool_keys.proofs.Bases.{state_one}
-use Rattle.pool_keys.proofs.Caches.{record_one}
+use Rattle.obj_ops.specs.Stores.{Store, state_of}
 use Rattle.store_face.specs.Calls.{Among}
 use Rattle.store_face.specs.Tables.{Table}
 use Rattle.store_face.specs.Views.{StoreView}
@@ -22,7 +17,7 @@ use Rattle.tier_chron.specs.Shapes.{IsShaped}
 use Rattle.tier_chron.specs.declared.entries.Act.{Act}
 use Rattle.tier_chron.specs.declared.entries.First.{First}
 use Rattle.tier_chron.proofs.Staying.{act_keeps_shape}
-use Rattle.tier_join.specs.Group.{HasRecordAt, HasStateAt, Memory, ShowsIn, Spells, TwoMaps, View, AreLeft, BothTell, map_in, store_in, with_act}
+use Rattle.tier_join.specs.Group.{Memory, ShowsIn, TwoMaps, View, AreLeft, BothTell, map_in, store_in, with_act}
 use Rattle.tier_join.specs.declared.doubt.Doubt.{Doubt}
 use Rattle.tier_join.specs.Promises.{Promises}
 use Rattle.tier_join.specs.Steps.{Has, settled as left_settled, with_doubt}
@@ -30,7 +25,6 @@ use Rattle.tier_join.proofs.Left.{among_since, now_since}
 use Rattle.tier_join.proofs.Reopening.{opening_promises}
 use Rattle.tier_protocol.specs.Sound.{Shows}
 use Rattle.tier_protocol.specs.Owners.{with_call_act}
-use Rattle.tier_protocol.specs.Tiers.{Name, TierRec}
 use Rattle.tier_protocol.proofs.Requests.{fresh_seq}
 use Rattle.tier_view.specs.Grows.{AreEntered, Grows, HaveCome, OneCommit, Remains, Stays, in_base, in_cache}
 use Rattle.tier_view.specs.Laws.{Keeps, SettlingActsKeeps}
@@ -45,28 +39,7 @@ use Rattle.tier_view.proofs.Delivering.{history_acts, opened_more}
 use Rattle.tier_view.proofs.Keeping.{steps_keep}
 use Rattle.tier_view.proofs.Owning.{knows_more}
 use Rattle.tier_view.proofs.Resting.{all_of, extends_same, remains_itself, stays_itself}
-
--- ---- a map that shows the act is no pair without it
-
-record_behind : (o : Option (List ℕ)) (rec : Option TierRec) (seq : ℕ) (plain : NameState) → HasRecordAt seq o → IsRecOf o rec → Shows rec plain → seq ≡ plain.seq
-record_behind None rec seq plain has is shows = absurd has
-record_behind (Some bytes) None seq plain has is shows = absurd is
-record_behind (Some bytes) (Some r) seq plain has is shows =
-    let same : Some has.0 ≡ Some r = record_one (Some bytes) (Some has.0) (Some r) has.1 is in
-    let one : has.0 ≡ r = cc in
-    sym has.2 ∙ ap (λ x. x.state.seq) one ∙ ap (λ s. s.seq) shows
-
-state_behind : (o : Option (List ℕ)) (seq : ℕ) (base : NameState) → HasStateAt seq o → IsStateOf o base → seq ≡ base.seq
-state_behind None seq base has is = absurd has
-state_behind (Some bytes) seq base has is = sym has.2 ∙ ap (λ s. s.seq) (state_one (Some bytes) has.0 base has.1 is)
-
-not_without : (pool : Pool) (start : Store) (m : Memory) (z : TwoMaps) (name : Name) (seq : ℕ) → ShowsIn pool name seq (map_in pool z) → seq ≡ (state_of (replay start m.acts) name).seq + 1 → Spells start m z → ⊥
-not_without Cache start m z name seq shows next h =
-    let same = record_behind (fin.get z.cache (record_key name)) (fin.get h.recs name) seq (state_of (replay start m.acts) name) shows (h.cached.each name) (h.sound.names name).shows in
-    absurd (omega (arith, same, next))
-not_without Base start m z name seq shows next h =
-    let same = state_behind (fin.get z.base (state_key name)) seq (state_of h.base name) shows (h.based.each name) in
-    absurd (omega (arith, same, next, (h.sound.names name).base.behind))
+use Rattle.tier_join.proofs.Reopening.{not_without}
 
 -- ---- the stores
 

@@ -1,5 +1,5 @@
 -- How the parts of a group are written down as values of contracts.
-use Rattle.std.specs.Prelude.{ℕ, zero, suc, Bool, List, Option, ◌≡◌, refl}
+use Rattle.std.specs.Prelude.{ℕ, Bool, List, Option, refl}
 use Rattle.std.specs.Coded.{Coded, code_by, coded×, coded_ℕ, coded_list, coded_option, coded_bool}
 use Rattle.std.specs.FinMap as fin
 use Rattle.agent_state.specs.contracts.modes.Modes as modes
@@ -12,9 +12,8 @@ use Rattle.obj_model.specs.contracts.tier.Mode as mode
 use Rattle.obj_model.specs.contracts.tier.PoolValues as values
 use Rattle.obj_model.specs.declared.tier.Mode.{Mode}
 use Rattle.obj_model.specs.declared.tier.PoolValues.{PoolValues}
-use Rattle.store_face.specs.Codes.{coded_crash}
-use Rattle.store_face.specs.Rooms.{Room, LogRoom, BlockRoom}
-use Rattle.store_face.specs.Views.{CrashMaps, StoreView}
+use Rattle.store_face.specs.Codes.{coded_store}
+use Rattle.store_face.specs.Views.{StoreView}
 use Rattle.tier_chron.specs.Logs.{Log, coded_log}
 use Rattle.tier_protocol.specs.Tiers.{Flights, Phase}
 use Rattle.tier_types.specs.contracts.flight.Flight as flight
@@ -36,33 +35,6 @@ use Rattle.tier_view.specs.contracts.parts.Replied as replied
 use Rattle.tier_view.specs.contracts.parts.Sent as sent
 
 -- ---- stores
-
--- the parts of a room, and the room that they make
-abbrev pub parts_of : Room → ℕ × (ℕ × ℕ)
-parts_of (LogRoom limit) = (0, (limit, 0))
-parts_of (BlockRoom blocks area) = (1, (blocks, area))
-
-abbrev pub room_of : ℕ × (ℕ × ℕ) → Room
-room_of p = elim (p.0) [ zero ↦ LogRoom p.1.0 | suc k ↦ BlockRoom p.1.0 p.1.1 ]
-
-pub room_back : (r : Room) → room_of (parts_of r) ≡ r
-room_back (LogRoom limit) = refl
-room_back (BlockRoom blocks area) = refl
-
-abbrev pub coded_store : Coded StoreView
-coded_store =
-    code_by ((Option (List CrashMaps) × (Bool × ℕ)) × ((ℕ × (ℕ × ℕ)) × ℕ))
-    (coded× (coded× (coded_option (coded_list coded_crash)) (coded× coded_bool coded_ℕ))
-    (coded× (coded× coded_ℕ (coded× coded_ℕ coded_ℕ)) coded_ℕ))
-    (λ v. ((v.moments, (v.live, v.faults)), (parts_of v.room, v.used)))
-    (λ c. record {
-      moments = c.0.0;
-      live = c.0.1.0;
-      faults = c.0.1.1;
-      room = room_of c.1.0;
-      used = c.1.1;
-    })
-    (λ v i. record v { room = room_back v.room i })
 
 abbrev pub coded_stores : Coded Stores
 coded_stores =
