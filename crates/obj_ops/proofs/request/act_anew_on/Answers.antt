@@ -19,11 +19,11 @@ returns-clause-exact c =
     elim c.match-branch-3.branch [
       | in-Ok w ↦ acts_done s c.match-branch-3.state r c.run_on.new.obj c.match-branch-3.reply
           c.settle.result
-          c.if-state-eq-SEQ_LIMIT.false
+          c.if-state-eq-NUMBER_LIMIT.false
           (rw w.in-Ok.is at c.in_ok-run_on.ensures.exact) w.state-is w.reply-is seen
       | in-Err w ↦ acts_refused s c.match-branch-3.state r c.run_on.new.obj _ _
           c.match-branch-3.reply
           c.settle.result
-          c.if-state-eq-SEQ_LIMIT.false (rw w.in-Err.is at c.in_ok-run_on.ensures.exact).0
+          c.if-state-eq-NUMBER_LIMIT.false (rw w.in-Err.is at c.in_ok-run_on.ensures.exact).0
           (rw w.in-Err.is at c.in_ok-run_on.ensures.exact).1 w.state-is w.reply-is seen
     ]
