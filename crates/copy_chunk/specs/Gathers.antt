@@ -1,12 +1,14 @@
 -- What gathered chunks make, which one is wanted behind them, and what a gather does with a chunk.
-use Rattle.std.specs.Prelude.{◌≡◌, ◌≢◌, ◌+◌, ◌^◌, ℕ, Bool, true, false, ◌&&◌, nat_lt, nat_le, List}
+use Rattle.std.specs.Prelude.{◌≡◌, ◌≢◌, ◌+◌, ℕ, Bool, true, false, ◌&&◌, nat_lt, nat_le, List}
 use Rattle.std.specs.Prelude.{[], ◌∷◌, ◌++◌, map, length, Option, Some, None, if◌then◌else◌}
 use Rattle.std.specs.List.{AllByRecursion}
 use Rattle.std.specs.Option.{option_map}
 use Rattle.std.specs.Ordering.{is_lt}
 use Rattle.std.specs.FinMap as fin
+use Rattle.obj_model.specs.Limits.{body_limit, attrs_limit, omap_limit, value_limit, number_limit}
 use Rattle.obj_model.specs.Names.{name_cmp}
 use Rattle.obj_model.specs.States.{unknown}
+use Rattle.obj_model.specs.declared.limits.TheConstants.{CLIENT_LIMIT}
 use Rattle.obj_model.specs.declared.out.Pair.{Pair}
 use Rattle.obj_model.specs.declared.reply.Kept.{Kept}
 use Rattle.obj_model.specs.declared.reply.Reply.{Reply}
@@ -115,20 +117,20 @@ abbrev pub goes_behind : Option (List ℕ) → List ℕ → Bool
 goes_behind None key = true
 goes_behind (Some last) key = is_lt (name_cmp last key)
 
--- pairs whose keys go on rising behind a key, with values of at most 4,096 bytes
+-- pairs whose keys go on rising behind a key, with values within their limit
 abbrev pub pairs_fit : Option (List ℕ) → List Pair → Bool
 pairs_fit last [] = true
 pairs_fit last (p ∷ ps) =
-    goes_behind last p.key && nat_le (length p.value) 4096 && pairs_fit (Some p.key) ps
+    goes_behind last p.key && nat_le (length p.value) value_limit && pairs_fit (Some p.key) ps
 
 -- pairs, at least one, which a table of at most so many entries can take
 abbrev pub table_fits : ℕ → List Entry → List Pair → Bool
 table_fits most es ps =
     nat_lt 0 (length ps) && nat_le (length es + length ps) most && pairs_fit (last_key None es) ps
 
--- bytes, at least one, which a body of at most 1,048,576 bytes can take
+-- bytes, at least one, which a body can take
 abbrev pub body_fits : List ℕ → List ℕ → Bool
-body_fits body bytes = nat_lt 0 (length bytes) && nat_le (length body + length bytes) 1048576
+body_fits body bytes = nat_lt 0 (length bytes) && nat_le (length body + length bytes) body_limit
 
 -- a refusal names a sub-operation of a vector
 abbrev pub reply_fits : Reply → Bool
@@ -137,7 +139,7 @@ reply_fits (Refused at why ver) = nat_lt at 16
 
 -- a kept request within its limits
 abbrev pub kept_fits : Kept → Bool
-kept_fits k = nat_le k.client 256 && nat_le k.tid (2 ^ 62) && reply_fits k.reply
+kept_fits k = nat_le k.client CLIENT_LIMIT && nat_le k.tid number_limit && reply_fits k.reply
 
 -- kept requests within their limits, whose clients rise from one on
 abbrev pub kepts_fit : ℕ → List Kept → Bool
@@ -152,12 +154,12 @@ object_fits (Some o) test = test o
 -- whether a state stays within its limits with one more part; a part of another kind than its place
 -- does not fit
 abbrev pub part_fits : NameState → Cursor → Part → Bool
-part_fits s Head (part.Head ver seq present) = nat_le ver seq && nat_le seq (2 ^ 62)
+part_fits s Head (part.Head ver seq present) = nat_le ver seq && nat_le seq number_limit
 part_fits s (Body off) (part.Body bytes) = object_fits s.obj (λ o. body_fits o.body bytes)
 part_fits s (Attrs key) (part.Pairs ps) =
-    object_fits s.obj (λ o. table_fits 64 (fin.entries o.attrs) ps)
+    object_fits s.obj (λ o. table_fits attrs_limit (fin.entries o.attrs) ps)
 part_fits s (Omap key) (part.Pairs ps) =
-    object_fits s.obj (λ o. table_fits 1024 (fin.entries o.omap) ps)
+    object_fits s.obj (λ o. table_fits omap_limit (fin.entries o.omap) ps)
 part_fits s Seen (part.Seen ks) = kepts_fit 0 ks
 part_fits s at other = false
 

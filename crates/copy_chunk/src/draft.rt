@@ -15,15 +15,12 @@ ghost use Rattle.copy_chunk.specs.Steps.{IsRising, state_of, Puts, PutsTable, Pu
 
 use crate::{Cursor, Part};
 use obj_model::{
-    ATTRS_LIMIT, BODY_LIMIT, Bytes, Items, Kept, KeptList, NUMBER_LIMIT, Name, NameMap, NameState,
-    NoMemory, OMAP_LIMIT, Obj, Pair, PairList, Reply, VALUE_LIMIT,
+    ATTRS_LIMIT, BODY_LIMIT, Bytes, CLIENT_LIMIT, Items, Kept, KeptList, NUMBER_LIMIT, Name,
+    NameMap, NameState, NoMemory, OMAP_LIMIT, Obj, Pair, PairList, Reply, VALUE_LIMIT,
+    VECTOR_LIMIT,
 };
 use std::alloc::Global;
 use std::collections::BTreeMap;
-
-const CLIENT_LIMIT: u16 = 256;
-
-const VECTOR_LIMIT: u8 = 16;
 
 type Table = BTreeMap<Name, Bytes>;
 
@@ -100,7 +97,7 @@ fn reply_fits(reply: &Reply) -> bool
 {
     match reply {
         Reply::Done { .. } => true,
-        Reply::Refused { at, .. } => *at < VECTOR_LIMIT,
+        Reply::Refused { at, .. } => (*at as usize) < VECTOR_LIMIT,
     }
 }
 
