@@ -1,5 +1,11 @@
 -- A disk at one moment: what it reads as, what a stop may leave of it, and how a call changes both.
-use Rattle.std.specs.Prelude.{◌≡◌, ℕ, ◌+◌, ◌-◌, ◌<◌, ◌≤◌, Bool, false, ◌==◌, ◌&&◌, ◌||◌, nat_lt, nat_le, min, max, List, [], ◌∷◌, ◌++◌, length, take, drop, replicate, slice_index, if◌then◌else◌}
+use Rattle.std.specs.Prelude.{◌≡◌, ℕ, ◌+◌, ◌-◌, ◌^◌, ◌<◌, ◌≤◌, Bool, false, ◌==◌, ◌&&◌, ◌||◌}
+use Rattle.std.specs.Prelude.{nat_lt, nat_le, min, max, List, [], ◌∷◌, ◌++◌, length, take, drop}
+use Rattle.std.specs.Prelude.{replicate, slice_index, if◌then◌else◌}
+
+-- the longest disk, in bytes
+abbrev pub disk_limit : ℕ
+disk_limit = 2 ^ 41
 
 -- One moment. Since the disk was last settled the ranges were written, each given by its first byte
 -- and the byte behind its last, and its size was between the least and the greatest.

@@ -1,9 +1,10 @@
 //! A disk that may stop at any moment. Its contract tells, moment by moment, what a stop may leave,
 //! so that every promise above about power cuts is of one form: each image of each moment since
 //! then has this.
-ghost use Rattle.std.specs.Prelude.{◌≡◌, ◌+◌, ◌^◌, ◌≤◌, List, ℕ, Option, length, IfOk, OnOk, OnErr};
+ghost use Rattle.std.specs.Prelude.{◌≡◌, ◌+◌, ◌≤◌, List, ℕ, Option, length, IfOk, OnOk, OnErr};
 ghost use Rattle.tier_outside.specs.Causes.{HasCause};
-ghost use Rattle.tier_outside.specs.Disk.{DiskMoment, IsImage, Writes, Cuts, Syncs, Restarts, Reads, written, resized};
+ghost use Rattle.tier_outside.specs.Disk.{disk_limit, DiskMoment, IsImage, Writes, Cuts, Syncs};
+ghost use Rattle.tier_outside.specs.Disk.{Restarts, Reads, written, resized};
 ghost use Rattle.tier_outside.specs.DiskMoments.{Now, Then, Goes};
 
 /// The disk failed.
@@ -37,7 +38,7 @@ pub trait Disk {
     /// Writes all of the bytes at an offset; past the end the disk becomes longer. A write of no
     /// bytes changes nothing. After a fault any part of the work may be done.
     fn write_at(&mut self, off: u64, bytes: &[u8]) -> Result<(), DiskFault>
-        requires { off + length bytes.now ≤ 2 ^ 41 }
+        requires { off + length bytes.now ≤ disk_limit }
         ensures step { Goes (Writes off (length bytes.now)) (moments self.old) (moments self.new) }
         ensures done { OnOk result (Then (moments self.old) (moments self.new)
             (λ d e. e.content ≡ written off bytes.now d.content)) }
@@ -46,7 +47,7 @@ pub trait Disk {
 
     /// Sets the length in bytes, shorter or longer. After a fault any part of the work may be done.
     fn cut(&mut self, size: u64) -> Result<(), DiskFault>
-        requires { size ≤ 2 ^ 41 }
+        requires { size ≤ disk_limit }
         ensures step { Goes (Cuts size) (moments self.old) (moments self.new) }
         ensures done { OnOk result (Then (moments self.old) (moments self.new)
             (λ d e. e.content ≡ resized size d.content)) }
