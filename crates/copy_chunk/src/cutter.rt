@@ -66,6 +66,14 @@ impl Cutter {
         &self.state
     }
 
+    /// The state itself, which is given back.
+    pub fn into_state(self) -> NameState
+        ensures { result ≡ self }
+    {
+        let Cutter { state, .. } = self;
+        state
+    }
+
     /// The chunk at a place, as `chunk_of` gives it.
     pub fn chunk(&mut self, alloc: Global, at: &Cursor) -> Result<Option<Chunk>, NoMemory>
         ensures chunk { IfOk result (λ chunk. chunk ≡ chunk_at (chunks_of self.old) at.now) }
