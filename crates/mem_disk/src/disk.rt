@@ -1,11 +1,13 @@
 //! The disk in memory: which call fails and what a failed call does. It meets the trait of disks
 //! whole, images included, so code that is proved over any disk may be run over it with a stop at
 //! any call.
-ghost use Rattle.std.specs.Prelude.{◌≡◌, ◌≤◌, ◌+◌, ◌/◌, ◌^◌, min, max, length, take, IfOk, OnOk, OnErr};
+ghost use Rattle.std.specs.Prelude.{◌≡◌, ◌≤◌, ◌+◌, ◌/◌, min, max, length, take, IfOk, OnOk, OnErr};
 ghost use Rattle.tier_outside.specs.Causes.{HasCause, Rose, one_more};
-ghost use Rattle.tier_outside.specs.Disk.{IsImage, Writes, Cuts, Syncs, Restarts, Reads, resized, touch, trim, written};
+ghost use Rattle.tier_outside.specs.Disk.{disk_limit, IsImage, Writes, Cuts, Syncs, Restarts};
+ghost use Rattle.tier_outside.specs.Disk.{Reads, resized, touch, trim, written};
 ghost use Rattle.tier_outside.specs.DiskMoments.{Now, Then, Goes};
-ghost use Rattle.mem_disk.specs.Memory.{Answers, Changes, IsSound, Settles, Wakes, fresh, now, told, turn_of, restart_turn};
+ghost use Rattle.mem_disk.specs.Memory.{Answers, Changes, IsSound, Settles, Wakes, fresh, now};
+ghost use Rattle.mem_disk.specs.Memory.{told, turn_of, restart_turn};
 ghost use Rattle.mem_disk.specs.Memory as mem;
 
 use crate::pick::Pick;
@@ -123,7 +125,7 @@ impl MemDisk {
     }
 
     fn write(&mut self, off: u64, bytes: &[u8]) -> Result<(), DiskFault>
-        requires { off + length bytes.now ≤ 2 ^ 41 }
+        requires { off + length bytes.now ≤ disk_limit }
         ensures sound { IsSound (now self.new) }
         ensures cause { HasCause self.old.faults self.new.faults result }
         ensures changes { Changes (turn_of self.old.schedule)
@@ -147,7 +149,7 @@ impl MemDisk {
     }
 
     fn resize(&mut self, size: u64) -> Result<(), DiskFault>
-        requires { size ≤ 2 ^ 41 }
+        requires { size ≤ disk_limit }
         ensures sound { IsSound (now self.new) }
         ensures cause { HasCause self.old.faults self.new.faults result }
         ensures changes { Changes (turn_of self.old.schedule)
@@ -204,11 +206,13 @@ impl MemDisk {
 }
 
 impl Disk for MemDisk {
-    ghost use Rattle.std.specs.Prelude.{◌≡◌, ◌≤◌, ◌+◌, ◌/◌, ◌^◌, length, take, IfOk, OnOk, OnErr};
+    ghost use Rattle.std.specs.Prelude.{◌≡◌, ◌≤◌, ◌+◌, ◌/◌, length, take, IfOk, OnOk, OnErr};
     ghost use Rattle.tier_outside.specs.Causes.{HasCause};
-    ghost use Rattle.tier_outside.specs.Disk.{IsImage, Writes, Cuts, Syncs, Restarts, Reads, resized, touch, trim, written};
+    ghost use Rattle.tier_outside.specs.Disk.{disk_limit, IsImage, Writes, Cuts, Syncs, Restarts};
+    ghost use Rattle.tier_outside.specs.Disk.{Reads, resized, touch, trim, written};
     ghost use Rattle.tier_outside.specs.DiskMoments.{Now, Then, Goes};
-    ghost use Rattle.mem_disk.specs.Memory.{Answers, Changes, Settles, Wakes, now, told, turn_of, restart_turn};
+    ghost use Rattle.mem_disk.specs.Memory.{Answers, Changes, Settles, Wakes, now, told, turn_of};
+    ghost use Rattle.mem_disk.specs.Memory.{restart_turn};
     ghost use Rattle.mem_disk.specs.Memory as mem;
 
     ghost moments = { λ d. told d };
@@ -231,7 +235,7 @@ impl Disk for MemDisk {
     }
 
     fn write_at(&mut self, off: u64, bytes: &[u8]) -> Result<(), DiskFault>
-        requires { off + length bytes.now ≤ 2 ^ 41 }
+        requires { off + length bytes.now ≤ disk_limit }
         ensures step { Goes (Writes off (length bytes.now)) (told self.old) (told self.new) }
         ensures done { OnOk result (Then (told self.old) (told self.new)
             (λ d e. e.content ≡ written off bytes.now d.content)) }
@@ -248,7 +252,7 @@ impl Disk for MemDisk {
     }
 
     fn cut(&mut self, size: u64) -> Result<(), DiskFault>
-        requires { size ≤ 2 ^ 41 }
+        requires { size ≤ disk_limit }
         ensures step { Goes (Cuts size) (told self.old) (told self.new) }
         ensures done { OnOk result (Then (told self.old) (told self.new)
             (λ d e. e.content ≡ resized size d.content)) }

@@ -1,7 +1,9 @@
 //! What a disk in memory holds, at each moment so far. It keeps the moments that the trait of disks
 //! asks for; the past is known to proofs alone and takes no memory.
-ghost use Rattle.std.specs.Prelude.{◌≡◌, ◌≤◌, ◌+◌, ◌-◌, ◌^◌, ℕ, List, [], ◌∷◌, ◌++◌, length, take, drop, min, max, OnOk, OnErr, IfOk};
-ghost use Rattle.tier_outside.specs.Disk.{Reads, resized, settled, touch, trim, written};
+ghost use Rattle.std.specs.Prelude.{◌≡◌, ◌≤◌, ◌+◌, ◌-◌, ℕ, List, [], ◌∷◌, ◌++◌, length, take, drop};
+ghost use Rattle.std.specs.Prelude.{min, max, OnOk, OnErr, IfOk};
+ghost use Rattle.tier_outside.specs.Disk.{disk_limit, Reads, resized, settled, touch, trim};
+ghost use Rattle.tier_outside.specs.Disk.{written};
 ghost use Rattle.tier_outside.specs.DiskMoments.{last};
 ghost use Rattle.mem_disk.specs.Memory.{IsSound};
 ghost use Rattle.mem_disk.specs.Picks.{Picked};
@@ -85,7 +87,7 @@ impl Platter {
 
     /// Writes the first bytes of a piece; without memory nothing changes.
     pub fn write(&mut self, off: usize, bytes: &[u8], done: usize) -> Result<(), AllocError>
-        requires room { off + length bytes.now ≤ 2 ^ 41 }
+        requires room { off + length bytes.now ≤ disk_limit }
         requires part { done ≤ length bytes.now }
         requires sound { IsSound (last self.old) }
         ensures ok { OnOk result (self.new ≡ self.old ++ touch off (length bytes.now) (written off

@@ -1,6 +1,8 @@
 //! The bytes of a disk in memory, and what of them is not settled.
-ghost use Rattle.std.specs.Prelude.{◌≡◌, ◌≤◌, ◌<◌, ◌+◌, ◌-◌, ◌^◌, length, take, OnOk, OnErr, vec_len, vec_capacity, false};
-ghost use Rattle.tier_outside.specs.Disk.{IsImage, reach, filled, replaced, written, resized, touch, trim, settled, is_touched};
+ghost use Rattle.std.specs.Prelude.{◌≡◌, ◌≤◌, ◌<◌, ◌+◌, ◌-◌, length, take, OnOk, OnErr, vec_len};
+ghost use Rattle.std.specs.Prelude.{vec_capacity, false};
+ghost use Rattle.tier_outside.specs.Disk.{disk_limit, IsImage, reach, filled, replaced, written};
+ghost use Rattle.tier_outside.specs.Disk.{resized, touch, trim, settled, is_touched};
 ghost use Rattle.mem_disk.specs.Steps.Moments.{moment_of};
 ghost use Rattle.mem_disk.specs.Picks.{Picked, is_unsettled};
 ghost use Rattle.mem_disk.specs.Steps.Choosing.{CopiedIn, SettledBelow, is_between};
@@ -21,7 +23,7 @@ pub struct State {
 }
 
 fn reached(off: usize, count: usize) -> usize
-    requires { off + count ≤ 2 ^ 41 }
+    requires { off + count ≤ disk_limit }
     ensures { result ≡ reach off count }
 {
     if count == 0 { 0 } else { off + count }
@@ -62,7 +64,7 @@ fn replace(content: &mut [u8], off: usize, bytes: &[u8])
 
 #[tactic(auto, using(tier_outside::proofs::DiskImages::written_none))]
 fn overwrite(content: &mut Vec<u8>, off: usize, bytes: &[u8]) -> Result<(), AllocError>
-    requires { off + length bytes.now ≤ 2 ^ 41 }
+    requires { off + length bytes.now ≤ disk_limit }
     ensures ok { OnOk result (content.new.items ≡ written off bytes.now content.old.items) }
     ensures err { OnErr result (content.new.items ≡ content.old.items) }
 {
@@ -76,7 +78,7 @@ fn overwrite(content: &mut Vec<u8>, off: usize, bytes: &[u8]) -> Result<(), Allo
 
 /// A write that does the first part of its work; without memory nothing changes.
 pub fn write(state: &mut State, off: usize, bytes: &[u8], done: usize) -> Result<(), AllocError>
-    requires room { off + length bytes.now ≤ 2 ^ 41 }
+    requires room { off + length bytes.now ≤ disk_limit }
     requires part { done ≤ length bytes.now }
     ensures ok { OnOk result (moment_of state.new ≡ touch off (length bytes.now)
         (written off (take done bytes.now) state.old.content.items) (moment_of state.old)) }
