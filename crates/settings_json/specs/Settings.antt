@@ -4,6 +4,7 @@ use Rattle.std.specs.Str.{is_utf8}
 use Rattle.serde_json.specs.Data.{Data, Members, no_members, member}
 use Rattle.serde_json.specs.Read.{read}
 use Rattle.serde_json.specs.Find.{as_object, as_number, as_str, as_u64}
+use Rattle.obj_model.specs.Limits.{number_limit}
 use Rattle.obj_model.specs.declared.tier.Mode.{Mode}
 use Rattle.obj_model.specs.declared.tier.Mode.TheVariants.{Writeback, Readproxy, Proxy}
 use Rattle.obj_model.specs.declared.tier.HitType.{HitType}
@@ -85,9 +86,9 @@ with_cache_value key d v =
     if bytes_eq key (codes "cache_mode") then
     put_in key (λ m. record v { cache_mode = m }) (mode_in d)
     else if bytes_eq key (codes "target_max_bytes") then
-    put_in key (λ n. record v { target_max_bytes = n }) (number_in 0 4611686018427387904 d)
+    put_in key (λ n. record v { target_max_bytes = n }) (number_in 0 number_limit d)
     else if bytes_eq key (codes "target_max_objects") then
-    put_in key (λ n. record v { target_max_objects = n }) (number_in 0 4611686018427387904 d)
+    put_in key (λ n. record v { target_max_objects = n }) (number_in 0 number_limit d)
     else if bytes_eq key (codes "cache_target_dirty_ratio") then
     put_in key (λ n. record v { cache_target_dirty_ratio = n }) (number_in 0 1000000 d)
     else if bytes_eq key (codes "cache_target_dirty_high_ratio") then

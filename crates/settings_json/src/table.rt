@@ -4,7 +4,7 @@ ghost use Rattle.serde_json.specs.View.{view};
 ghost use Rattle.settings_json.specs.Settings.{defaults, number_in, rate_in, mode_named, mode_in, hit_type_named, hit_type_in, with_cache_value, with_value};
 ghost use Rattle.settings_json.specs.Steps.{IsRow};
 
-use obj_model::{HitType, Mode, PoolValues};
+use obj_model::{HitType, Mode, NUMBER_LIMIT, PoolValues};
 use serde_json::Value;
 
 /// The values of a pool of which nothing was set.
@@ -26,9 +26,6 @@ pub(crate) const DEFAULTS: PoolValues = PoolValues {
     min_read_recency_for_promote: 1,
     min_write_recency_for_promote: 1,
 };
-
-// The greatest target, 2^62.
-const MOST_TARGET: u64 = 4_611_686_018_427_387_904;
 
 // All of a whole, in millionths.
 const WHOLE: u64 = 1_000_000;
@@ -133,8 +130,8 @@ fn with_cache_value(key: &str, value: &Value, old: PoolValues) -> Result<PoolVal
 {
     match key {
         "cache_mode" => put!(old, cache_mode, mode(value)),
-        "target_max_bytes" => put!(old, target_max_bytes, long(value, 0, MOST_TARGET)),
-        "target_max_objects" => put!(old, target_max_objects, long(value, 0, MOST_TARGET)),
+        "target_max_bytes" => put!(old, target_max_bytes, long(value, 0, NUMBER_LIMIT)),
+        "target_max_objects" => put!(old, target_max_objects, long(value, 0, NUMBER_LIMIT)),
         "cache_target_dirty_ratio" => put!(old, cache_target_dirty_ratio, long(value, 0, WHOLE)),
         "cache_target_dirty_high_ratio" => put!(
             old,
