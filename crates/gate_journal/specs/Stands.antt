@@ -1,14 +1,14 @@
 -- A journal on a disk that may stop: what stands of it, and what each image of a moment may hold.
-use Rattle.std.specs.Prelude.{◌⊎◌, ℕ, ◌+◌, ◌<◌, ◌≤◌, ◌^◌, List, [], ◌∷◌, ◌++◌, length}
-use Rattle.tier_outside.specs.Disk.{DiskMoment, RangeStands, written}
+use Rattle.std.specs.Prelude.{◌⊎◌, ℕ, ◌+◌, ◌<◌, ◌≤◌, List, [], ◌∷◌, ◌++◌, length}
+use Rattle.tier_outside.specs.Disk.{disk_limit, DiskMoment, RangeStands, written}
 use Rattle.gate_journal.specs.Journals.{Spells, behind_gate}
 use Rattle.gate_journal.specs.declared.journal.Journal.{Journal}
 
--- the places of a journal on a disk of at most 2^41 bytes
+-- the places of a journal on a disk of at most `disk_limit` bytes
 pub record InRange (journal : Journal) : Type 0 where
   pub order : journal.start ≤ journal.next
-  pub last : journal.next < 2 ^ 41
-  pub limit : journal.end ≤ 2 ^ 41
+  pub last : journal.next < disk_limit
+  pub limit : journal.end ≤ disk_limit
 
 -- The journal stands on the disk with these payloads, whatever a stop leaves: its bytes up to its
 -- closed gate are settled, and spell them. Its end has no part in it.

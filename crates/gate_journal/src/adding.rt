@@ -2,7 +2,7 @@
 ghost use Rattle.std.specs.Prelude.{◌≡◌, ◌⊎◌, ◌+◌, ◌<◌, ◌≤◌, ◌^◌, List, ℕ, [], ◌∷◌, ◌++◌, length};
 ghost use Rattle.std.specs.Prelude.{IfOk, OnOk, OnErr};
 ghost use Rattle.tier_outside.specs.Causes.{HasCause, Rose};
-ghost use Rattle.tier_outside.specs.Disk.{settled, StopsIn};
+ghost use Rattle.tier_outside.specs.Disk.{disk_limit, settled, StopsIn};
 ghost use Rattle.tier_outside.specs.DiskMoments.{Now, Then, Leaves};
 ghost use Rattle.gate_journal.specs.Calls.{AddEnds};
 ghost use Rattle.gate_journal.specs.Journals.{IsClosed};
@@ -30,7 +30,7 @@ pub fn start<D: Disk>(
     first: &[u8],
 ) -> Result<Journal, StoreFault>
     requires order { at ≤ end }
-    requires limit { end ≤ 2 ^ 41 }
+    requires limit { end ≤ disk_limit }
     requires size { length first.now < 2 ^ 32 }
 
     ensures answer { AddEnds at (length first.now + 6) end

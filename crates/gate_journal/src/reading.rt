@@ -1,6 +1,6 @@
 //! Reading a journal, from its first gate to its closed one.
-ghost use Rattle.tier_outside.specs.Disk.{RangeStands};
-ghost use Rattle.std.specs.Prelude.{◌≡◌, ◌+◌, ◌≤◌, ◌^◌, IfOk};
+ghost use Rattle.tier_outside.specs.Disk.{disk_limit, RangeStands};
+ghost use Rattle.std.specs.Prelude.{◌≡◌, ◌+◌, ◌≤◌, IfOk};
 ghost use Rattle.tier_outside.specs.Causes.{Rose};
 ghost use Rattle.tier_outside.specs.DiskMoments.{Now};
 ghost use Rattle.gate_journal.specs.Calls.{WalkEnds};
@@ -27,7 +27,7 @@ pub fn walk<D: Disk>(
     end: u64,
 ) -> Result<(Journal, Items<Bytes>), StoreFault>
     requires order { at ≤ end }
-    requires limit { end ≤ 2 ^ 41 }
+    requires limit { end ≤ disk_limit }
 
     ensures read { WalkEnds at end (D.moments disk.old)
         (Rose (D.faults disk.old) (D.faults disk.new)) result }

@@ -1,6 +1,7 @@
 //! The bytes of a record.
 ghost use Rattle.std.specs.Prelude.{◌≡◌, ◌+◌, ◌<◌, ◌≤◌, ◌^◌, length, IfOk};
 ghost use Rattle.tier_outside.specs.Causes.{Rose};
+ghost use Rattle.tier_outside.specs.Disk.{disk_limit};
 ghost use Rattle.tier_outside.specs.DiskMoments.{Now};
 ghost use Rattle.gate_journal.specs.Journals.{behind_gate};
 ghost use Rattle.gate_journal.specs.Calls.{AddEnds};
@@ -87,7 +88,7 @@ impl Record {
 // The length of the payload behind an open gate, or `None` behind a closed one. Below the limit the
 // payload and the gate behind it are there.
 fn read_head<D: Disk>(disk: &mut D, gate: u64, limit: u64) -> Result<Option<u64>, StoreFault>
-    requires small { limit ≤ 2 ^ 41 }
+    requires small { limit ≤ disk_limit }
     requires there { Now (D.moments disk.old) (λ d. limit ≤ length d.content) }
     ensures read { HeadRead gate limit (D.moments disk.old)
         (Rose (D.faults disk.old) (D.faults disk.new)) result }
@@ -121,7 +122,7 @@ pub fn read_record<D: Disk>(
     gate: u64,
     limit: u64,
 ) -> Result<Option<Bytes>, StoreFault>
-    requires small { limit ≤ 2 ^ 41 }
+    requires small { limit ≤ disk_limit }
     requires there { Now (D.moments disk.old) (λ d. limit ≤ length d.content) }
     ensures read { RecordRead gate limit (D.moments disk.old)
         (Rose (D.faults disk.old) (D.faults disk.new)) result }
