@@ -1,4 +1,5 @@
-//! Pushes into a history, and what its entries weigh: 64, and the bytes that each carries.
+//! Pushes into a history, what its entries weigh (64, and the bytes that each carries), and which
+//! calls may still act.
 ghost use Rattle.std.specs.Prelude.{◌≤◌};
 
 use crate::tools::{bytes, name, object};
@@ -175,5 +176,46 @@ fn a_million_pushes_after_one_reserve(rt: HostRuntime) -> Result<(), Fail> {
     push_many(&mut history, 1_000_000);
     assert!(rt; history.entries() == 1_000_000 && history.bytes() == 64_000_000);
     assert!(rt; history.answers().len() == 1_000_000);
+    Ok(())
+}
+
+// Pushes an entry of call 1 by its word; nothing of another word.
+fn push_word(history: &mut History, alloc: Global, word: &str) -> Result<(), Fail> {
+    history.reserve(1)?;
+    match word {
+        "act" => {
+            let act = act(alloc, "remove")?;
+            history.push_act(None, act);
+        }
+        "restarted" => history.push_answer(logged(1, Answer::Restarted { was: 1, now: 2 })),
+        "worn" => history.push_answer(logged(1, Answer::Worn { limit: 9 })),
+        "memory" => history.push_answer(logged(1, Answer::NoMemory)),
+        "clean" => history.push_answer(logged(1, Answer::Clean)),
+        _ => {}
+    }
+    Ok(())
+}
+
+// Entries of call 1, and whether it may act behind them.
+const ENTRIES: &str = "nothing => yes
+act => no
+restarted => yes
+worn => yes
+memory => no
+clean => no
+restarted act => no
+clean restarted => no";
+
+#[test]
+fn calls_that_may_act(rt: HostRuntime) -> Result<(), Fail> {
+    for row in ENTRIES.lines() {
+        let (words, may) = row.split_once(" => ").ok_or("a row")?;
+        let mut history = History::new(rt.alloc());
+        for word in words.split(' ') {
+            push_word(&mut history, rt.alloc(), word)?;
+        }
+        assert!(rt; history.may_act(1) == (may == "yes"), "{row}");
+        assert!(rt; history.may_act(2), "{row}");
+    }
     Ok(())
 }

@@ -1,3 +1,4 @@
+pub mod Closing
 pub mod Openings
 pub mod Lists
 pub mod Places

@@ -7,7 +7,7 @@ use Rattle.tier_chron.specs.Fits.{AreTrue, Fits, FitsCall, IsHistoryFrom, TellsC
 use Rattle.tier_chron.specs.Legal.{Acts, IsLegal, IsOrdered}
 use Rattle.tier_chron.specs.Logs.{Log, acted_log, answered_log, empty_log, is_opened}
 use Rattle.tier_chron.specs.Places.{act_at, behind, store_at, written_over}
-use Rattle.tier_chron.specs.Shapes.{HasNoAct, IsAnswered, IsAskedBy, IsShaped, is_fault}
+use Rattle.tier_chron.specs.Shapes.{HasNoAct, HasOnlyFaults, IsAnswered, IsAskedBy, IsShaped, is_fault}
 use Rattle.tier_chron.specs.declared.asked.Asked.{Asked}
 use Rattle.tier_chron.specs.declared.asked.Asked.TheVariants.{Write}
 use Rattle.tier_chron.specs.declared.entries.First.{First}
@@ -57,11 +57,17 @@ ActKeepsLegal a =
     → IsOpeningFor (behind start log.acts) log.opening a first
     → IsLegal start (acted_log first a log)
 
+-- as far as acts and answers say, the call may act: it has no act yet, and was answered nothing but
+-- a fault
+pub record MayStillAct (call : ℕ) (log : Log) : Type 0 where
+  pub first : HasNoAct call log.acts
+  pub free : HasOnlyFaults call log.answers
+
 -- the call may act now: it asked for this act, has none yet, and was answered nothing but a fault
 pub record MayAct (calls : List Call) (log : Log) (a : Act) : Type 0 where
   pub asked : IsAskedBy a (call_of calls a.call)
   pub first : HasNoAct a.call log.acts
-  pub free : AllByRecursion (λ l. l.call ≡ a.call → is_fault l.answer ≡ true) log.answers
+  pub free : HasOnlyFaults a.call log.answers
 
 -- a history keeps its shape with one act more
 abbrev pub ActKeepsShape : Act → Type 0

@@ -85,6 +85,10 @@ abbrev pub is_fault : Answer → Bool
 is_fault (answer.Restarted was now) = true
 is_fault other = is_start_fault other
 
+-- the call was answered nothing but faults
+abbrev pub HasOnlyFaults : ℕ → List Logged → Type 0
+HasOnlyFaults call answers = AllByRecursion (λ l. l.call ≡ call → is_fault l.answer ≡ true) answers
+
 -- work that holds up readings: a flush does not
 abbrev pub holds_readings : Kind → Bool
 holds_readings kind.Flush = false

@@ -1,5 +1,6 @@
 //! What calls are answered.
 ghost use Rattle.std.specs.Prelude.{◌≡◌, IfOk};
+ghost use Rattle.tier_chron.specs.Shapes.{is_fault};
 
 use obj_model::{Kind, Mode, Name, NoMemory, OutList, Pool, Why};
 
@@ -141,5 +142,21 @@ impl Answer {
         ensures { IfOk result (λ c. c ≡ self.now) }
     {
         Ok(self.clone()?)
+    }
+    /// Whether it is a fault: a number at its end, a disk that failed or spells nothing, no room, or
+    /// a start of the cache in between. A write request that ends by a fault may still act; all
+    /// other answers are for good.
+    pub fn is_fault(&self) -> bool
+        ensures { result ≡ is_fault self.now }
+    {
+        match self {
+            Answer::Restarted { .. }
+            | Answer::Damaged { .. }
+            | Answer::NoSpace { .. }
+            | Answer::Worn { .. }
+            | Answer::DiskFault { .. }
+            | Answer::BadRecord { .. } => true,
+            _ => false,
+        }
     }
 }

@@ -1,15 +1,19 @@
 //! The history of a group. It only grows. Memory for entries is taken before the step that pushes
-//! them, so that a push cannot fail; what the entries weigh is kept as a running sum.
-ghost use Rattle.std.specs.Prelude.{◌≡◌, ◌≤◌, ◌+◌, ◌-◌, Some, map, max, OnOk, OnErr};
+//! them, so that a push cannot fail; what the entries weigh is kept as a running sum, and the calls
+//! that may act no more as a set.
+ghost use Rattle.std.specs.Prelude.{◌≡◌, ◌≤◌, ◌+◌, ◌-◌, ◌==◌, ◌&&◌, ◌↔◌, Some, cond, map, max, nat_eq, not, true, IsTrue, OnOk, OnErr};
 ghost use Rattle.std.specs.Option.{option_copied};
 ghost use Rattle.indexmap.specs.IndexMap.{spare};
+ghost use Rattle.indexmap.specs.IndexSet as set;
+ghost use Rattle.tier_chron.specs.Laws.{MayStillAct};
 ghost use Rattle.tier_chron.specs.Logs.{acted_log, answered_log, empty_log, opened, opening_of};
+ghost use Rattle.tier_chron.specs.Shapes.{is_fault};
 ghost use Rattle.tier_chron.specs.Weights.{bytes_of, cut, entries_of};
 ghost use Rattle.tier_chron.specs.Steps.Histories.{first_of, opened_weight};
 
 use crate::weights::{act_weight, first_weight, logged_weight};
 use crate::{Act, First, Logged};
-use indexmap::IndexMap;
+use indexmap::{IndexMap, IndexSet};
 use obj_model::{Name, NameState, NoMemory};
 use std::alloc::Global;
 use std::marker::Model;
@@ -24,6 +28,7 @@ pub struct History {
     opening: IndexMap<Name, NameState>,
     acts: Vec<Act>,
     answers: Vec<Logged>,
+    closed: IndexSet<u64>,
     bytes: u64,
     room: u64,
 }
@@ -31,9 +36,10 @@ pub struct History {
 impl Model for History {
     ghost use Rattle.std.specs.Prelude.{◌≡◌, ◌≤◌, ◌+◌, vec_len, vec_capacity};
     ghost use Rattle.indexmap.specs.IndexMap.{spare};
+    ghost use Rattle.indexmap.specs.IndexSet as set;
     ghost use Rattle.tier_chron.specs.Logs.{HistoryView, coded_history};
     ghost use Rattle.tier_chron.specs.Weights.{bytes_of, cut};
-    ghost use Rattle.tier_chron.specs.Steps.Histories.{log_of};
+    ghost use Rattle.tier_chron.specs.Steps.Histories.{AreClosed, log_of};
 
     ghost Value = { HistoryView };
 
@@ -47,7 +53,8 @@ impl Model for History {
     ghost invariant = { λ h. (h.bytes ≡ cut (bytes_of
         (log_of h.opening.entries h.acts.items h.answers.items)))
         × (h.room ≤ spare h.opening) × (vec_len h.acts + h.room ≤ vec_capacity h.acts)
-        × (vec_len h.answers + h.room ≤ vec_capacity h.answers) };
+        × (vec_len h.answers + h.room ≤ vec_capacity h.answers) × (h.room ≤ set.spare h.closed)
+        × AreClosed h.closed.keys h.acts.items h.answers.items };
 }
 
 impl History {
@@ -59,6 +66,7 @@ impl History {
             opening: IndexMap::new(alloc),
             acts: Vec::new(alloc),
             answers: Vec::new(alloc),
+            closed: IndexSet::new(alloc),
             bytes: 0,
             room: 0,
         }
@@ -74,6 +82,7 @@ impl History {
             self.opening.reserve(pushes as usize)?;
             self.acts.reserve(pushes as usize)?;
             self.answers.reserve(pushes as usize)?;
+            self.closed.reserve(pushes as usize)?;
             self.room = pushes;
         }
         Ok(())
@@ -92,6 +101,7 @@ impl History {
         self.room -= 1;
         let weight = open(&mut self.opening, first).saturating_add(act_weight(&act));
         self.bytes = self.bytes.saturating_add(weight);
+        close(&mut self.closed, act.call);
         self.acts.push_reserved(act);
     }
 
@@ -105,6 +115,7 @@ impl History {
     {
         self.room -= 1;
         self.bytes = self.bytes.saturating_add(logged_weight(&logged));
+        close_answered(&mut self.closed, &logged);
         self.answers.push_reserved(logged);
     }
 
@@ -129,6 +140,14 @@ impl History {
         ensures { result.now ≡ self.now.log.answers }
     {
         self.answers.as_slice()
+    }
+
+    /// Whether a call may still act: none of the acts is its own, and it was answered nothing but
+    /// faults. It is one look-up, however many entries there are.
+    pub fn may_act(&self, call: u64) -> bool
+        ensures { IsTrue result ↔ MayStillAct call self.now.log }
+    {
+        !self.closed.contains(&call)
     }
 
     /// How many openings, acts and answers there are.
@@ -180,4 +199,29 @@ fn open_name(opening: &mut IndexMap<Name, NameState>, first: First) -> u64
         unreachable!();
     };
     weight
+}
+
+// Notes a call as one that may act no more.
+fn close(closed: &mut IndexSet<u64>, call: u64)
+    requires { 1 ≤ set.spare closed.old }
+    ensures closed { (k : _) → set.contains nat_eq closed.new k
+        ≡ cond (call == k) true (set.contains nat_eq closed.old k) }
+    ensures room { set.spare closed.old ≤ set.spare closed.new + 1 }
+{
+    let Ok(_) = closed.insert(call) else {
+        unreachable!();
+    };
+}
+
+// The same of the call of an answer, where the answer is for good.
+fn close_answered(closed: &mut IndexSet<u64>, logged: &Logged)
+    requires { 1 ≤ set.spare closed.old }
+    ensures closed { (k : _) → set.contains nat_eq closed.new k
+        ≡ cond ((logged.now.call == k) && not (is_fault logged.now.answer)) true
+        (set.contains nat_eq closed.old k) }
+    ensures room { set.spare closed.old ≤ set.spare closed.new + 1 }
+{
+    if !logged.answer.is_fault() {
+        close(closed, logged.call);
+    }
 }
