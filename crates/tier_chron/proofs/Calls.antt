@@ -12,7 +12,7 @@ use Rattle.tier_chron.specs.Shapes.{AreInTurn, HasNoAct, IsAnswered, IsAskedBy, 
 use Rattle.tier_chron.specs.declared.entries.Act.{Act}
 use Rattle.tier_chron.proofs.Lists.{all_imply, all_push, either_way}
 
-all_front : {X : Type 0} (P : X → Type 0) (xs : List X) (n : ℕ) → AllByRecursion P xs → AllByRecursion P (take n xs)
+pub all_front : {X : Type 0} (P : X → Type 0) (xs : List X) (n : ℕ) → AllByRecursion P xs → AllByRecursion P (take n xs)
 all_front P [] n h = take_none P n
   where
     take_none : {X : Type 0} (P : X → Type 0) (n : ℕ) → AllByRecursion P (take n [])
@@ -31,20 +31,20 @@ call_stays P calls c number none h =
     subst P (sym (find-append (λ d. d.number == number) calls (c ∷ []))) (found_by P (call_of calls number) (call_of (c ∷ []) number) none h)
 
 -- a number without a call has no act
-no_act : (calls : List Call) (number : ℕ) (acts : List Act) → call_of calls number ≡ None → AllByRecursion (λ a. IsAskedBy a (call_of calls a.call)) acts → HasNoAct number acts
+pub no_act : (calls : List Call) (number : ℕ) (acts : List Act) → call_of calls number ≡ None → AllByRecursion (λ a. IsAskedBy a (call_of calls a.call)) acts → HasNoAct number acts
 no_act calls number acts none h =
     all_imply (λ a. IsAskedBy a (call_of calls a.call)) (λ a. a.call ≢ number) (λ a asked same. subst (IsAskedBy a) (ap (call_of calls) same ∙ none) asked) acts h
 
 -- ---- numbers and begins
 
-unfound : (calls : List Call) (number : ℕ) → call_of calls number ≡ None → AllByRecursion (λ d. d.number ≢ number) calls
+pub unfound : (calls : List Call) (number : ℕ) → call_of calls number ≡ None → AllByRecursion (λ d. d.number ≢ number) calls
 unfound [] number e = tt
 unfound (c ∷ calls) number e =
     either_way (c.number == number)
     (λ h. let no : Some c ≡ None = sym (ap (λ b. cond b (Some c) (call_of calls number)) h) ∙ e in absurd (cc))
     (λ h. (eqb-false c.number number h, unfound calls number (sym (ap (λ b. cond b (Some c) (call_of calls number)) h) ∙ e)))
 
-turn_push : (calls : List Call) (c : Call) → AllByRecursion (λ d. d.begin ≤ c.begin) calls → AllByRecursion (λ d. d.number ≢ c.number) calls
+pub turn_push : (calls : List Call) (c : Call) → AllByRecursion (λ d. d.begin ≤ c.begin) calls → AllByRecursion (λ d. d.number ≢ c.number) calls
     → AreInTurn calls → AreInTurn (calls ++ c ∷ [])
 turn_push [] c b n h = (tt, tt)
 turn_push (d ∷ calls) c b n h = (

@@ -9,7 +9,7 @@ use Rattle.obj_model.specs.declared.state.NameState.{NameState}
 use Rattle.obj_ops.specs.Acts.{act}
 use Rattle.obj_ops.specs.Stores.{Store, state_of}
 use Rattle.tier_chron.specs.Calls.{Call, call_of}
-use Rattle.tier_chron.specs.Fits.{FitsCall, HasReply, IsKept, Tells, TellsCall, TellsRead, TellsWrite}
+use Rattle.tier_chron.specs.Fits.{FitsCall, HasReply, IsKept, TellsTruth, TellsCall, TellsRead, TellsWrite}
 use Rattle.tier_chron.specs.Laws.{ActKeepsShape, ActKeepsTruth, AnswerKeeps, AnswerStays, AnswersFit, MayLog}
 use Rattle.tier_chron.specs.Legal.{AreInOrder, IsOrdered, IsPlaced}
 use Rattle.tier_chron.specs.Logs.{Log, answered_log}
@@ -64,7 +64,7 @@ write_stays s t acts a req l (answer.Stale tid) e ne h = record {
 write_stays s t acts a req l other e ne h = tt
 
 tells_stay : (start : Store) (acts : List Act) (a : Act) (asked : Asked) (l : Logged) → l.place ≤ length acts → (l.call ≡ a.call → is_fault l.answer ≡ true)
-    → Tells start acts asked l → Tells start (acts ++ a ∷ []) asked l
+    → TellsTruth start acts asked l → TellsTruth start (acts ++ a ∷ []) asked l
 tells_stay start acts a (Write req) l le ne h =
     write_stays (state_at start acts l.place req.name) (state_at start (acts ++ a ∷ []) l.place req.name) acts a req l l.answer
     (ap (λ (s : Store). state_of s req.name) (place_stays start acts (a ∷ []) l.place le)) ne h

@@ -53,12 +53,12 @@ TellsRead s vector (answer.Refused at why ver kept) = look s vector ≡ looked.R
 TellsRead s vector other = Unit {0}
 
 -- what an answer tells; only answers to clients tell of objects
-abbrev pub Tells : Store → List Act → Asked → Logged → Type 0
-Tells start acts (Write req) l =
+abbrev pub TellsTruth : Store → List Act → Asked → Logged → Type 0
+TellsTruth start acts (Write req) l =
     TellsWrite (state_at start acts l.place req.name) acts req l l.answer
-Tells start acts (Read client name vector) l =
+TellsTruth start acts (Read client name vector) l =
     TellsRead (state_at start acts l.place name) vector l.answer
-Tells start acts other l = Unit {0}
+TellsTruth start acts other l = Unit {0}
 
 -- an answer fits what its call asked: it is one that the call may have; the call has one act at
 -- most, which does what it asked; the right acts stand beside the answer; and it tells what the
@@ -70,7 +70,7 @@ pub record Fits (start : Store) (acts : List Act) (asked : Asked) (l : Logged) :
   pub single : HasOneAct l.call acts
   pub own : DoesAsked l.call asked acts
   pub beside : Stands acts asked l
-  pub told : Tells start acts asked l
+  pub told : TellsTruth start acts asked l
 
 -- an answer fits what the call of its number asked
 abbrev pub FitsCall : Store → List Act → Logged → Option Call → Type 0
@@ -80,7 +80,7 @@ FitsCall start acts l (Some c) = Fits start acts c.asked l
 -- each answer tells the truth
 abbrev pub TellsCall : Store → List Act → Logged → Option Call → Type 0
 TellsCall start acts l None = ⊥
-TellsCall start acts l (Some c) = Tells start acts c.asked l
+TellsCall start acts l (Some c) = TellsTruth start acts c.asked l
 
 abbrev pub AreTrue : Store → List Call → Log → Type 0
 AreTrue start calls log =

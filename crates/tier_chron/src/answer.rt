@@ -143,6 +143,7 @@ impl Answer {
     {
         Ok(self.clone()?)
     }
+
     /// Whether it is a fault: a number at its end, a disk that failed or spells nothing, no room, or
     /// a start of the cache in between. A write request that ends by a fault may still act; all
     /// other answers are for good.

@@ -10,7 +10,7 @@ use Rattle.obj_model.specs.declared.tier.Kind.TheVariants as kind
 use Rattle.obj_ops.specs.Stores.{Store}
 use Rattle.tier_chron.proofs.Lists.{all_imply, either_way}
 use Rattle.tier_chron.specs.Calls.{Call, call_of}
-use Rattle.tier_chron.specs.Fits.{Tells, TellsCall, TellsRead, TellsWrite}
+use Rattle.tier_chron.specs.Fits.{TellsTruth, TellsCall, TellsRead, TellsWrite}
 use Rattle.tier_chron.specs.Places.{state_at}
 use Rattle.tier_chron.specs.Shapes.{IsAnswered}
 use Rattle.tier_chron.specs.declared.answer.Answer.{Answer}
@@ -131,7 +131,7 @@ one_of P (y ∷ ys) x h (inr on) = one_of P ys x h.1 on
 
 -- ---- it tells nothing of objects
 
-blocked_write : (start : Store) (acts : List Act) (asked : Asked) (l : Logged) (k : Kind) (op : ℕ) → l.answer ≡ answer.Blocked k op → Tells start acts asked l
+blocked_write : (start : Store) (acts : List Act) (asked : Asked) (l : Logged) (k : Kind) (op : ℕ) → l.answer ≡ answer.Blocked k op → TellsTruth start acts asked l
 blocked_write start acts (Write req) l k op is = subst (TellsWrite (state_at start acts l.place req.name) acts req l) (sym is) tt
 blocked_write start acts (Read client name vector) l k op is = subst (TellsRead (state_at start acts l.place name) vector) (sym is) tt
 blocked_write start acts (Flush name blocking begin_only) l k op is = tt

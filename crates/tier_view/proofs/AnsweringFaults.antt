@@ -9,7 +9,7 @@ use Rattle.obj_model.specs.declared.state.NameState.{NameState}
 use Rattle.obj_model.specs.declared.sub_op.SubOp.{SubOp}
 use Rattle.obj_ops.specs.Stores.{Store}
 use Rattle.tier_chron.specs.Calls.{Call, call_of}
-use Rattle.tier_chron.specs.Fits.{Tells, TellsCall, TellsRead, TellsWrite}
+use Rattle.tier_chron.specs.Fits.{TellsTruth, TellsCall, TellsRead, TellsWrite}
 use Rattle.tier_chron.specs.Laws.{MayLog}
 use Rattle.tier_chron.specs.Places.{state_at}
 use Rattle.tier_chron.specs.Shapes.{IsAnswered, is_fault}
@@ -74,7 +74,7 @@ read_nothing s vector (answer.Values ver outs) is = absurd (true≢false (sym is
 read_nothing s vector (answer.Refused at why ver kept) is = absurd (true≢false (sym is))
 read_nothing s vector x is = tt
 
-fault_tells : (start : Store) (acts : List Act) (asked : Asked) (l : Logged) → is_fault l.answer ≡ true → Tells start acts asked l
+fault_tells : (start : Store) (acts : List Act) (asked : Asked) (l : Logged) → is_fault l.answer ≡ true → TellsTruth start acts asked l
 fault_tells start acts (Write req) l is = write_nothing (state_at start acts l.place req.name) acts req l l.answer is
 fault_tells start acts (Read client name vector) l is = read_nothing (state_at start acts l.place name) vector l.answer is
 fault_tells start acts (Flush name blocking begin_only) l is = tt

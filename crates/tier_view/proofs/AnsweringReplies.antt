@@ -18,7 +18,7 @@ use Rattle.obj_ops.specs.declared.reading.Looked.TheVariants as looked
 use Rattle.obj_ops.specs.declared.request.Acted.{Acted}
 use Rattle.obj_ops.specs.declared.request.Acted.TheVariants as acted
 use Rattle.tier_chron.specs.Calls.{Call, call_of}
-use Rattle.tier_chron.specs.Fits.{Tells, TellsCall, TellsRead, TellsWrite}
+use Rattle.tier_chron.specs.Fits.{TellsTruth, TellsCall, TellsRead, TellsWrite}
 use Rattle.tier_chron.specs.Laws.{MayLog}
 use Rattle.tier_chron.specs.Places.{behind, state_at}
 use Rattle.tier_chron.specs.Shapes.{is_fault}
@@ -240,7 +240,7 @@ module _ (v : GroupView) (k : Name) (driver : Option ℕ) (op : ℕ) (r : Req) (
             (subst (λ acts. act (state_of (behind start acts) r.name) r ≡ lasting a) (sym (whole_take v.log.acts)) (subst (λ n. act (state_of (store_now start (joined v)) n) r ≡ lasting a) (sym named) plain)))
             (λ x on same. ((landing_fits t (ledger_in v) k driver l.call op r a w.spells.sound w.owners lands).0 (act_in x) on same).1))
       ] in
-      subst (TellsCall start v.log.acts l) (sym c.1) (subst (λ x. Tells start v.log.acts x l) (sym c.2) tells)
+      subst (TellsCall start v.log.acts l) (sym c.1) (subst (λ x. TellsTruth start v.log.acts x l) (sym c.2) tells)
     where
       fault_tells_write : is_fault l.answer ≡ true → (start : Store) → TellsWrite (state_at start v.log.acts l.place r.name) v.log.acts r l l.answer
       fault_tells_write fault start = write_nothing (state_at start v.log.acts l.place r.name) v.log.acts r l l.answer fault
@@ -348,7 +348,7 @@ looked_calls_keep v k list r found client l left dropped h q d may now is =
             (looked_tells (state_at start v.log.acts l.place k) r.vector found
             (subst (λ n. found ≡ look (state_at start v.log.acts n k) r.vector) (sym now)
             (subst (λ acts. found ≡ look (state_of (behind start acts) k) r.vector) (sym (whole_take v.log.acts)) plain))) in
-            subst (TellsCall start v.log.acts l) (sym c) (subst (λ x. Tells start v.log.acts x l) (sym q.asked) tells);
+            subst (TellsCall start v.log.acts l) (sym c) (subst (λ x. TellsTruth start v.log.acts x l) (sym q.asked) tells);
         good = inr (readers_may_close_now v l.call h none);
       },
     )

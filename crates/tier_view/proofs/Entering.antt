@@ -19,6 +19,7 @@ use Rattle.tier_view.specs.Traffic.{Begun, Owner, Traffic}
 use Rattle.tier_view.specs.Views.{asking_of, calls_in}
 use Rattle.tier_view.specs.Whole.{HasOwner, SoundTraffic}
 use Rattle.tier_view.specs.Worlds.{MayPend}
+use Rattle.tier_chron.proofs.Calls.{all_front, no_act, turn_push, unfound}
 
 -- the first of two, or what follows it
 beside : {X : Type 0} (P : Option X → Type 0) (b : Bool) (x : X) (o p : Option X) → (P o → P p) → P (cond b (Some x) o) → P (cond b (Some x) p)
@@ -38,31 +39,6 @@ pub asks_more : (es : List Entry) (e : Entry) (n : ℕ) (a : Asking) → asking_
 asks_more es e n a h = call_more (λ o. asking_of o ≡ Some a) (λ k. absurd (cc)) es e n h
 
 -- ---- the history's shape, with one call more
-
-all_front : {X : Type 0} (P : X → Type 0) (xs : List X) (n : ℕ) → AllByRecursion P xs → AllByRecursion P (take n xs)
-all_front P [] zero h = tt
-all_front P [] (suc n) h = tt
-all_front P (x ∷ xs) zero h = tt
-all_front P (x ∷ xs) (suc n) h = (h.0, all_front P xs n h.1)
-
-no_act : (calls : List Call) (number : ℕ) (acts : List Act) → call_of calls number ≡ None → AllByRecursion (λ a. IsAskedBy a (call_of calls a.call)) acts → HasNoAct number acts
-no_act calls number acts none h =
-    all_imply (λ a. IsAskedBy a (call_of calls a.call)) (λ a. a.call ≢ number) (λ a asked same. subst (IsAskedBy a) (ap (call_of calls) same ∙ none) asked) acts h
-
-unfound : (calls : List Call) (number : ℕ) → call_of calls number ≡ None → AllByRecursion (λ d. d.number ≢ number) calls
-unfound [] number e = tt
-unfound (c ∷ calls) number e =
-    either_way (c.number == number)
-    (λ h. let no : Some c ≡ None = sym (ap (λ b. cond b (Some c) (call_of calls number)) h) ∙ e in absurd (cc))
-    (λ h. (eqb-false c.number number h, unfound calls number (sym (ap (λ b. cond b (Some c) (call_of calls number)) h) ∙ e)))
-
-turn_push : (calls : List Call) (c : Call) → AllByRecursion (λ d. d.begin ≤ c.begin) calls → AllByRecursion (λ d. d.number ≢ c.number) calls
-    → AreInTurn calls → AreInTurn (calls ++ c ∷ [])
-turn_push [] c b n h = (tt, tt)
-turn_push (d ∷ calls) c b n h = (
-  all_push (λ e. (d.begin ≤ e.begin) × (e.number ≢ d.number)) calls c h.0 (b.0, λ same. n.0 (sym same)),
-  turn_push calls c b.1 n.1 h.1,
-)
 
 pub shape_more : (es : List Entry) (e : Entry) (log : Log) → IsShaped (calls_in es) log → call_of (calls_in es) e.number ≡ None → e.begin ≡ length log.acts → IsShaped (calls_in (es ++ e ∷ [])) log
 shape_more es e log h new now =
