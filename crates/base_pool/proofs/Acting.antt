@@ -29,7 +29,7 @@ use Rattle.base_pool.specs.Views.{BaseView, Has}
 use Rattle.base_pool.specs.declared.fault.BaseFault.{BaseFault}
 use Rattle.base_pool.specs.declared.kept.Kept.{Kept}
 use Rattle.base_pool.proofs.Later.{commit_later}
-use Rattle.base_pool.proofs.Readings.{kept_on, no_memory_then, own_answers, own_changes, own_epoch, own_failed, own_taken}
+use Rattle.base_pool.proofs.Readings.{kept_given, kept_on, no_memory_then, own_answers, own_changes, own_epoch, own_failed, own_taken}
 
 -- ---- a commit that failed
 
@@ -131,15 +131,15 @@ fresh_refused have op r s t reply fault o a m b stays lawful has e few spells h 
     own_refused (BaseMsg.Write have op r) have o a b s r.name t (BaseReply.Wrote have op (BaseActed.Fresh reply)) fault (own_taken have) refl
     (served_write have op r s (Fresh t reply) e) lawful has few spells (commit_later a m b (put_at r.name t ∷ []) (Err fault) stays h)
 
-pub fresh_lawful : (s t : NameState) (r : Req) (reply : Reply) → LeavesLawful s r → r.tid ≤ number_limit → IsState s → Fresh t reply ≡ act s r → IsState t
-fresh_lawful s t r reply leaves low lawful e = subst (λ x. IsState (state_after s x)) (sym e) (leaves low lawful)
+pub fresh_lawful : (s t : NameState) (r : Req) (reply : Reply) → LeavesLawful s r → r.tid ≤ number_limit → IsState s → act s r ≡ Fresh t reply → IsState t
+fresh_lawful s t r reply leaves low lawful e = subst (λ x. IsState (state_after s x)) e (leaves low lawful)
 
 -- a request that did not act changes nothing
-pub unacted_given : (have op : ℕ) (r : Req) (x : Acted) (o : Bool) (a b : StoreView) (k : Kept) → put_by x ≡ None → Recalls r.name a b (Ok k) → x ≡ act k.state r
+pub unacted_given : (have op : ℕ) (r : Req) (x : Acted) (o : Bool) (a b : StoreView) (k : Kept) → put_by x ≡ None → Recalls r.name a b (Ok k) → act k.state r ≡ x
     → Serves (BaseMsg.Write have op r) (base_of a have o) (base_of b have o) (Ok (BaseReply.Wrote have op (told_of x)))
 unacted_given have op r x o a b k none h e =
     own_answers (BaseMsg.Write have op r) have o a b k.state None (BaseReply.Wrote have op (told_of x))
-    (served_write have op r k.state x (sym e) ∙ ap (λ p. record { epoch = have; put = p; reply = BaseReply.Wrote have op (told_of x) }) none) h.1 h.2 tt h.3
+    (served_write have op r k.state x e ∙ ap (λ p. record { epoch = have; put = p; reply = BaseReply.Wrote have op (told_of x) }) none) h.1 h.2 tt h.3
 
 pub write_failed : (have op : ℕ) (r : Req) (o : Bool) (a b : StoreView) (fault : BaseFault) → Recalls r.name a b (Err fault)
     → Serves (BaseMsg.Write have op r) (base_of a have o) (base_of b have o) (Err fault)
@@ -181,7 +181,7 @@ pub install_failed : (have op : ℕ) (name : List ℕ) (t : NameState) (o : Bool
 install_failed have op name t o a b fault h = own_failed (BaseMsg.Install have op name t) have o a b name fault (own_taken have) refl h
 
 -- what the answer to a request rests on
-pub ruleset write_rules = (fresh_lawful, unacted_given, write_failed, no_memory_then, kept_on)
+pub ruleset write_rules = (fresh_lawful, unacted_given, write_failed, no_memory_then, kept_given)
 
 -- what the answer to an installation rests on
 pub ruleset install_rules = (install_left, install_failed, kept_on)

@@ -20,6 +20,18 @@ pub(crate) struct Kept {
     pub(crate) state: Cutter,
 }
 
+impl Kept {
+    /// A state of which no chunk was given.
+    pub(crate) fn new(name: Name, state: NameState) -> Kept
+        ensures { result ≡ record { name = name; state = state } }
+    {
+        Kept {
+            name,
+            state: Cutter::new(state),
+        }
+    }
+}
+
 // The state that a value spells.
 fn decoded(alloc: Global, bytes: &[u8]) -> Result<Option<NameState>, StoreFault>
     ensures { Decodes (SpellsState bytes.now) result }
@@ -60,10 +72,7 @@ fn read_anew<P: Store>(alloc: Global, store: &mut P, name: &Name) -> Result<Kept
     let copy = name.copy()?;
     match find_state(alloc, store, name) {
         Err(fault) => Err(fault),
-        Ok(state) => Ok(Kept {
-            name: copy,
-            state: Cutter::new(state),
-        }),
+        Ok(state) => Ok(Kept::new(copy, state)),
     }
 }
 

@@ -22,7 +22,7 @@ use crate::putting::{put_epoch, put_state, refused};
 use crate::refusing::refusal;
 use copy_chunk::Cursor;
 use obj_model::{NUMBER_LIMIT, Name, NameState, Reply, Req, Vector};
-use obj_ops::{Acted, act, look};
+use obj_ops::{Answered, act_on, look};
 use std::alloc::Global;
 use store_face::{Store, StoreFault};
 use tier_types::{BaseActed, BaseMsg, BaseReply};
@@ -163,7 +163,7 @@ fn put_fresh<P: Store>(
     }
 }
 
-// Lets a request act on the name's state.
+// Lets a request act on the name's state where it lies; one that it left as it was is kept.
 #[tactic(auto, using(crate::proofs::Acting::write_rules))]
 fn write<P: Store>(
     alloc: Global,
@@ -186,36 +186,40 @@ fn write<P: Store>(
 {
     match recall(alloc, store, kept.take(), &req.name) {
         Err(fault) => Err(fault),
-        Ok(held) => match act(alloc, held.state.state(), req) {
-            Err(_) => Err(BaseFault::Store(StoreFault::NoMemory)),
-            Ok(Acted::Fresh { state, reply }) => {
-                put_fresh(alloc, store, have, opid, req, &state, reply)
+        Ok(held) => {
+            let Kept { name, state } = held;
+            let mut state = state.into_state();
+            match act_on(alloc, &mut state, req) {
+                Err(_) => Err(BaseFault::Store(StoreFault::NoMemory)),
+                Ok(Answered::Fresh { reply }) => {
+                    put_fresh(alloc, store, have, opid, req, &state, reply)
+                }
+                Ok(Answered::Again { reply }) => {
+                    *kept = Some(Kept::new(name, state));
+                    Ok(BaseReply::Wrote {
+                        epoch: have,
+                        opid,
+                        acted: BaseActed::Again(reply),
+                    })
+                }
+                Ok(Answered::Stale { kept: tid }) => {
+                    *kept = Some(Kept::new(name, state));
+                    Ok(BaseReply::Wrote {
+                        epoch: have,
+                        opid,
+                        acted: BaseActed::Stale { kept: tid },
+                    })
+                }
+                Ok(Answered::Worn { limit }) => {
+                    *kept = Some(Kept::new(name, state));
+                    Ok(BaseReply::Wrote {
+                        epoch: have,
+                        opid,
+                        acted: BaseActed::Worn { limit },
+                    })
+                }
             }
-            Ok(Acted::Again { reply }) => {
-                *kept = Some(held);
-                Ok(BaseReply::Wrote {
-                    epoch: have,
-                    opid,
-                    acted: BaseActed::Again(reply),
-                })
-            }
-            Ok(Acted::Stale { kept: tid }) => {
-                *kept = Some(held);
-                Ok(BaseReply::Wrote {
-                    epoch: have,
-                    opid,
-                    acted: BaseActed::Stale { kept: tid },
-                })
-            }
-            Ok(Acted::Worn { limit }) => {
-                *kept = Some(held);
-                Ok(BaseReply::Wrote {
-                    epoch: have,
-                    opid,
-                    acted: BaseActed::Worn { limit },
-                })
-            }
-        },
+        }
     }
 }
 
