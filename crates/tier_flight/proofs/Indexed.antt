@@ -131,6 +131,23 @@ module _ (has : Option Flight → ℕ → Bool) (before after : Index) (m new : 
         (λ q ne. won_there (test k) (has (fin.get m q) k) (name_in before k) (name_in after k) n q ne
         (entered k) (λ t. fresh k t q) (right k q))
 
+-- numbers that no work has were entered, and then taken out
+pub undone : (has : Option Flight → ℕ → Bool) (before between after : Index) (m : FlightMap)
+    (test : ℕ → Bool) (n : Name) → AreEntered test n before between →
+    AreForgotten test between after → IsIndexBy has before m →
+    ((k : ℕ) → test k ≡ true → (q : Name) → has (fin.get m q) k ≡ false) → IsIndexBy has after m
+undone has before between after m test n entered out right fresh k = by (test k) refl
+  where
+    by : (b : Bool) → test k ≡ b → (q : Name) → Finds (name_in after k) q (has (fin.get m q) k)
+    by true t q = (
+      (λ is. let gone : None ≡ Some q =
+          sym (out k ∙ ap (λ x. cond x None (name_in between k)) t) ∙ is in absurd (cc)),
+      (λ found. absurd (true≢false (sym found ∙ fresh k t q))),
+    )
+    by false t q = subst (λ (x : Option Name). Finds x q (has (fin.get m q) k))
+        (sym (out k ∙ ap (λ x. cond x None (name_in between k)) t ∙ entered k
+        ∙ ap (λ x. cond x (Some n) (name_in before k)) t)) (right k q)
+
 -- the name's work has the numbers that it had
 pub kept : (has : Option Flight → ℕ → Bool) (index : Index) (m new : FlightMap) (n : Name)
     (left : Option Flight) → new ≡ put_left m n left → IsIndexBy has index m →

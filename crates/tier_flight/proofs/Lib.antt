@@ -3,6 +3,7 @@ pub mod Fed
 pub mod Indexed
 pub mod Joined
 pub mod NumbersLeft
+pub mod OneRead
 pub mod Retained
 pub mod Standing
 pub mod Swaps

@@ -5,6 +5,7 @@ use Rattle.std.specs.FinMap as fin
 use Rattle.tier_types.specs.declared.flight.Flight.{Flight}
 use Rattle.tier_types.specs.declared.flight.Flight.TheVariants as flight
 use Rattle.tier_types.specs.declared.flight.ReadFlight.{ReadFlight}
+use Rattle.tier_types.specs.Flights.{IsIn}
 use Rattle.tier_flight.specs.Ends.{FlightMap, is_call}
 
 -- one of the reads is this operation
@@ -51,3 +52,13 @@ IsSingle (flight.Write driver owner opid req) = ⊤
 IsSingle (flight.Reads (r ∷ [])) = ⊤
 IsSingle (flight.Reads list) = ⊥
 IsSingle (flight.Flush call opid seq blocking drain) = ⊤
+
+-- the call has one read at most
+abbrev pub HasOneRead : ℕ → Option Flight → Type 0
+HasOneRead call (Some (flight.Reads list)) =
+    (r q : ReadFlight) → IsIn r list → IsIn q list → r.call ≡ call → q.call ≡ call → r ≡ q
+HasOneRead call work = ⊤
+
+-- each call has one read on a name at most
+abbrev pub HaveOneRead : FlightMap → Type 0
+HaveOneRead flights = (call : ℕ) (n : List ℕ) → HasOneRead call (fin.get flights n)

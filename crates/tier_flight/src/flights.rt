@@ -6,7 +6,7 @@ ghost use Rattle.obj_model.specs.Tables.{entries_above};
 ghost use Rattle.tier_flight.specs.Busy.{busy_at};
 ghost use Rattle.tier_flight.specs.Changes.{IsDroppedIn, IsFedIn, IsPromote, IsTakenIn, IsUnheld};
 ghost use Rattle.tier_flight.specs.Joins.{IsJoinedIn, MayJoin};
-ghost use Rattle.tier_flight.specs.Numbers.{IsIdle, IsNameBy, IsNewBy, IsSingle, has_call, has_opid};
+ghost use Rattle.tier_flight.specs.Numbers.{HaveOneRead, IsIdle, IsNameBy, IsNewBy, IsSingle, has_call, has_opid};
 
 use crate::busy::busy_of;
 use crate::holding::{feed, hold};
@@ -23,8 +23,8 @@ use tier_types::Flight;
 
 /// Unfinished work on names, at most one on each. It is seen as a finite map from names.
 ///
-/// No two works are one operation, and a call waits for one work at most; the name of an operation
-/// and of a call is found by an index.
+/// No two works are one operation, a call waits for one work at most, and has one read of it at
+/// most; the name of an operation and of a call is found by an index.
 #[derive(Drop)]
 pub struct Flights {
     by_name: NameMap<Flight>,
@@ -37,6 +37,7 @@ impl Model for Flights {
     ghost use Rattle.tier_types.specs.contracts.flight.Flight as flight;
     ghost use Rattle.tier_flight.specs.Ends.{FlightMap};
     ghost use Rattle.tier_flight.specs.Indexes.{IsIndexed};
+    ghost use Rattle.tier_flight.specs.Numbers.{HaveOneRead};
 
     ghost Value = { FlightMap };
 
@@ -44,7 +45,8 @@ impl Model for Flights {
 
     ghost view = { λ f. f.by_name };
 
-    ghost invariant = { λ f. IsIndexed f.numbers.opids f.numbers.calls f.by_name };
+    ghost invariant = { λ f. IsIndexed f.numbers.opids f.numbers.calls f.by_name
+        × HaveOneRead f.by_name };
 }
 
 impl Flights {
@@ -77,6 +79,13 @@ impl Flights {
         ensures { IsNameBy has_call self.now call (option_copied result) }
     {
         self.numbers.calls.get(call)
+    }
+
+    /// A call has one read on a name at most. It only tells so, and does nothing.
+    pub fn reads_are_one(&self)
+        ensures { HaveOneRead self.now }
+    {
+        let _flights = &self.by_name;
     }
 
     /// The work on names above this one, or on all without one, in the order of the names.

@@ -5,11 +5,11 @@ use Rattle.std.specs.FinMap as fin
 use Rattle.std.proofs.lemmas.Bool.{eq-eqb, eqb-false, eqb-true, ne_eqb}
 use Rattle.tier_flight.specs.Changes.{IsDroppedIn, dropped_at}
 use Rattle.tier_flight.specs.Ends.{is_call, is_other, left_at, others_of, reads_left}
-use Rattle.tier_flight.specs.Numbers.{IsNameBy, has_call, reads_call}
+use Rattle.tier_flight.specs.Numbers.{HasOneRead, IsNameBy, has_call, reads_call}
 use Rattle.tier_flight.proofs.WorkLaws.{ends_leave}
 use Rattle.tier_protocol.specs.Tiers.{Flight, Flights, Name, ReadFlight, IsIn}
 use Rattle.tier_types.specs.Flights.{HasOpid, IsLeftOf}
-use Rattle.tier_view.specs.Answers.{DropsWork, HasOneRead, OneWorkIsDropped, dropped_on, dropped_op, read_of}
+use Rattle.tier_view.specs.Answers.{DropsWork, OneWorkIsDropped, dropped_on, dropped_op, read_of}
 use Rattle.tier_view.specs.Views.{GroupView}
 use Rattle.tier_view.specs.Whole.{IsWhole}
 use Rattle.tier_view.proofs.AnsweringWork.{calls_on}

@@ -11,13 +11,13 @@ use Rattle.tier_chron.specs.Shapes.{is_fault}
 use Rattle.tier_chron.specs.declared.entries.Logged.{Logged}
 use Rattle.tier_flight.specs.Changes.{IsDroppedIn}
 use Rattle.tier_flight.specs.Ends.{is_call}
-use Rattle.tier_flight.specs.Numbers.{IsNameBy, has_call}
+use Rattle.tier_flight.specs.Numbers.{HasOneRead, IsNameBy, has_call}
 use Rattle.tier_join.specs.Group.{AreLeft, BothTell, Memory, ShowsIn, TwoMaps, map_in, tier_of, with_act, with_epoch}
 use Rattle.tier_join.specs.Promises.{Promises}
 use Rattle.tier_join.specs.Steps.{with_doubt}
 use Rattle.tier_owners.specs.Calls.{MayClose}
 use Rattle.tier_protocol.specs.Owners.{Ledger, with_call_act}
-use Rattle.tier_protocol.specs.Tiers.{Flight, Flights, Name, ReadFlight, IsIn}
+use Rattle.tier_protocol.specs.Tiers.{Flight, Flights, Name, ReadFlight}
 use Rattle.tier_types.specs.Flights.{HasOpid}
 use Rattle.tier_view.specs.Calls.{Calls, Flown}
 use Rattle.tier_view.specs.Changes.{ended_in, gone_in, unawaited, unnoted}
@@ -179,12 +179,6 @@ dropped_op call (Some (Flight.Flush c op seq blocking drain)) =
 abbrev pub dropped_on : ℕ → Flights → Option Name → Option ℕ
 dropped_on call flights None = None
 dropped_on call flights (Some n) = dropped_op call (fin.get flights n)
-
--- the call has one read at most
-abbrev pub HasOneRead : ℕ → Option Flight → Type 0
-HasOneRead call (Some (Flight.Reads list)) =
-    (r q : ReadFlight) → IsIn r list → IsIn q list → r.call ≡ call → q.call ≡ call → r ≡ q
-HasOneRead call work = Unit {0}
 
 -- The name that is found for a call is the one whose work it waits for, so the work that goes is
 -- there.
