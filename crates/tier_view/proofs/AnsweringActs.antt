@@ -50,7 +50,7 @@ found_number (d ∷ es) n e is =
     (λ same. ap (λ x. x.number) (sym (one_entry d e (sym (ap (λ b. cond b (Some d) (entry_of es n)) same) ∙ is))) ∙ eqb-true d.number n same)
     (λ other. found_number es n e (sym (ap (λ b. cond b (Some d) (entry_of es n)) other) ∙ is))
 
-found_holds : (P : Call → Type 0) (es : List Entry) (n : ℕ) (e : Entry) → AllByRecursion P (calls_in es) → entry_of es n ≡ Some e → P (call_in e)
+pub found_holds : (P : Call → Type 0) (es : List Entry) (n : ℕ) (e : Entry) → AllByRecursion P (calls_in es) → entry_of es n ≡ Some e → P (call_in e)
 found_holds P [] n e h is = absurd (cc)
 found_holds P (d ∷ es) n e h is =
     either_way (d.number == n)
