@@ -12,7 +12,7 @@ use Rattle.pool_survey.specs.Causes.{AreLevel, FitsAt, IsAt, IsBaseEntry, IsCach
 use Rattle.pool_survey.specs.Places.{IsLast, IsNext}
 use Rattle.pool_survey.specs.Runs.{AreRead, BaseSoFar, FitSoFar, IsReadUpTo, IsRecordRead, IsRecordTaken, IsRightSoFar, ReadsNext, ReadsOn, ReadsUpTo, SoFar, TakesRecord, TogetherSoFar}
 use Rattle.pool_survey.specs.Steps.{Shows, SpellsRec}
-use Rattle.pool_survey.specs.Surveys.{BothStay, InBoth, IsSurvey, Surveys}
+use Rattle.pool_survey.specs.Surveys.{AreSumsOf, BothStay, InBoth, IsSurvey, Surveys}
 use Rattle.pool_survey.specs.declared.base.BaseRun.{BaseRun}
 use Rattle.pool_survey.specs.declared.both.Run.{Run}
 use Rattle.pool_survey.specs.declared.cache.CacheRun.{CacheRun}
@@ -50,7 +50,11 @@ are_read_on run a b v w h r = record {
 
 -- what is told behind calls that changed nothing
 pub surveys_later : (result : Result Survey SurveyFault) (a b c v w z : StoreView) → BothStay a b v w → Surveys b c w z result → Surveys a c v z result
-surveys_later (Ok s) a b c v w z h k = (both_twice a b c v w z h k.0, both_back a b v w (IsSurvey s) h.cache_stays h.base_stays k.1)
+surveys_later (Ok s) a b c v w z h k = (
+  both_twice a b c v w z h k.0,
+  both_back a b v w (IsSurvey s) h.cache_stays h.base_stays k.1,
+  holds_back a b (AreSumsOf s.totals) h.cache_stays k.2,
+)
 surveys_later (Err (fault.Store Cache f)) a b c v w z h k = (read_fails_later a b c f h.cache_stays k.0, stays_twice v w z h.base_stays k.1)
 surveys_later (Err (fault.Store Base f)) a b c v w z h k = (stays_twice a b c h.cache_stays k.0, read_fails_later v w z f h.base_stays k.1)
 surveys_later (Err (fault.BadRecord Cache key)) a b c v w z h k = (both_twice a b c v w z h k.0, holds_back a b (IsFirstWrong IsCacheEntry key) h.cache_stays k.1)

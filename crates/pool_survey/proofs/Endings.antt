@@ -141,6 +141,7 @@ concluded run base (Ok s) a v w stays kept told whole r = (
   record { cache_stays = stays_same a; base_stays = stays },
   with_both a v (WholeCache run.cache) (WholeBase base) (TogetherSoFar run) (IsSurvey s)
       (λ x y cached based one. sound_pair run base s x y (kept.wrong told.0) told.2 told.1 told.3 cached based one) whole (whole_base run.base base v told.0 kept) r.in_both,
+  weaker a (WholeCache run.cache) (AreSumsOf s.totals) (λ x c. subst (λ (q : Survey). AreSumsOf q.totals x) (sym told.3) c.sums) whole,
 )
 concluded run base (Err (fault.Store pool f)) a v w stays kept told whole r = absurd told
 concluded run base (Err (fault.BadRecord Cache key)) a v w stays kept told whole r = absurd told

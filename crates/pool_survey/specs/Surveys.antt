@@ -43,6 +43,7 @@ abbrev pub Surveys :
     (cache caches base bases : StoreView) → Result Survey SurveyFault → Type 0
 Surveys cache caches base bases (Ok s) =
     BothStay cache caches base bases × InBoth cache base (IsSurvey s)
+    × Holds cache (AreSumsOf s.totals)
 Surveys cache caches base bases (Err (fault.Store Cache f)) =
     ReadFails f cache caches × Stays base bases
 Surveys cache caches base bases (Err (fault.Store Base f)) =
