@@ -1,0 +1,9 @@
+pub mod Kept
+pub mod Entered
+pub mod EndedCalls
+pub mod ReadHere
+pub mod ActedHere
+pub mod LookedHere
+pub mod ReadThere
+pub mod WroteHere
+pub mod WroteAll

@@ -1,0 +1,13 @@
+-- what a group is made of, and what always holds of it
+pub mod Parts
+pub mod Keeps
+-- how a call ends
+pub mod Ends
+-- what is read, and how a request acts
+pub mod Reads
+pub mod Acts
+-- how calls are answered
+pub mod Turns
+pub mod Writes
+-- what a step of it is
+pub mod Steps

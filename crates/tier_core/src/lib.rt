@@ -1,0 +1,23 @@
+//! A group: a cache and a base over two stores, with one history.
+//!
+//! A group is seen as the plain data of `tier_view`; what always holds of it is its invariant
+//! (`specs/Keeps.antt`). Each step of it is a method, in a file of its own: it promises exactly what
+//! it makes of that data, and that this is a step which keeps what always holds (`Keeps` of
+//! `tier_view`).
+#![tactic(auto)]
+
+mod acting;
+mod acts;
+mod ending;
+mod ends;
+mod entering;
+mod group;
+mod looking;
+mod parts;
+mod reading;
+mod reading_base;
+mod turns;
+mod writing;
+
+pub use group::Group;
+pub use turns::Turn;
