@@ -7,3 +7,4 @@ pub mod LookedHere
 pub mod ReadThere
 pub mod WroteHere
 pub mod WroteAll
+pub mod Founded

@@ -6,6 +6,8 @@ pub mod Ends
 -- what is read, and how a request acts
 pub mod Reads
 pub mod Acts
+-- how a group is attached
+pub mod Founds
 -- how calls are answered
 pub mod Turns
 pub mod Writes

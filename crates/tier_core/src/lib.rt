@@ -8,6 +8,7 @@
 
 mod acting;
 mod acts;
+mod attaching;
 mod ending;
 mod ends;
 mod entering;
@@ -19,5 +20,6 @@ mod reading_base;
 mod turns;
 mod writing;
 
+pub use attaching::{AttachFault, Setup};
 pub use group::Group;
 pub use turns::Turn;
