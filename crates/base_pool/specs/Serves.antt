@@ -3,7 +3,7 @@ use Rattle.std.specs.Prelude.{◌≡◌, ◌≢◌, ◌⊎◌, ◌≤◌, ◌<�
 use Rattle.std.specs.List.{list_any}
 use Rattle.std.specs.FinMap as fin
 use Rattle.byteorder.specs.Endian.{big_bytes}
-use Rattle.obj_model.specs.Limits.{number_limit}
+use Rattle.obj_model.specs.Limits.{number_limit, client_limit}
 use Rattle.obj_model.specs.States.{IsState}
 use Rattle.obj_model.specs.SubOps.{is_write}
 use Rattle.obj_model.specs.declared.change.Change.{Change}
@@ -30,7 +30,7 @@ use Rattle.base_pool.specs.declared.fault.BaseFault.TheVariants.{Store, BadRecor
 pub record IsWriteReq (r : Req) : Type 0 where
   pub writes : list_any is_write r.vector ≡ true
   pub client_low : 1 ≤ r.client
-  pub client_high : r.client ≤ 256
+  pub client_high : r.client ≤ client_limit
   pub tid : r.tid ≤ number_limit
 
 -- a message that can be served: its reading reads, its request writes, its state is within its

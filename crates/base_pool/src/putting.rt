@@ -1,5 +1,5 @@
 //! The commits of a base: each puts one value.
-ghost use Rattle.std.specs.Prelude.{◌≡◌, ◌≤◌, ◌^◌, ◌∷◌, [], true, Some};
+ghost use Rattle.std.specs.Prelude.{◌≡◌, ◌≤◌, ◌∷◌, [], true, Some};
 ghost use Rattle.byteorder.specs.Endian.{big_bytes};
 ghost use Rattle.obj_model.specs.States.{IsState};
 ghost use Rattle.obj_model.specs.declared.change.Change.TheVariants.{Put};
@@ -10,7 +10,7 @@ ghost use Rattle.base_pool.specs.Serves.{state_put};
 ghost use Rattle.base_pool.specs.Steps.{Spells, refused_by};
 
 use crate::BaseFault;
-use obj_model::{Bytes, Change, Name, NameState};
+use obj_model::{Bytes, Change, NUMBER_LIMIT, Name, NameState};
 use pool_keys::{epoch_key, state_key, write_epoch};
 use rec_codec::write_state;
 use std::alloc::Global;
@@ -48,7 +48,7 @@ pub(crate) fn put_epoch<P: Store>(
     requires live { (P.state store.old).live ≡ true }
     requires sound { Sound (P.state store.old) }
     requires least { 1 ≤ epoch }
-    requires most { epoch ≤ 2 ^ 62 }
+    requires most { epoch ≤ NUMBER_LIMIT }
     ensures put { Committed (Put epoch_key (big_bytes 8 epoch) ∷ []) (P.state store.old)
         (P.state store.new) result }
     ensures sound { Sound (P.state store.new) }

@@ -1,11 +1,11 @@
 //! The commits of a cache: each changes one key.
-ghost use Rattle.std.specs.Prelude.{◌≡◌, ◌≤◌, ◌<◌, ◌+◌, ◌^◌, ◌↔◌, ◌∷◌, [], true};
+ghost use Rattle.std.specs.Prelude.{◌≡◌, ◌≤◌, ◌<◌, ◌+◌, ◌↔◌, ◌∷◌, [], true};
 ghost use Rattle.obj_model.specs.Changes.{IsTxn};
 ghost use Rattle.obj_model.specs.States.{IsState};
 ghost use Rattle.store_face.specs.Views.{Sound};
 ghost use Rattle.cache_pool.specs.Puts.{Commits, IsSpelled, epoch_put, record_gone, record_put};
 
-use obj_model::{Bytes, Change, Name};
+use obj_model::{Bytes, Change, NUMBER_LIMIT, Name};
 use pool_keys::{epoch_key, record_key, write_epoch};
 use rec_codec::write_tier;
 use std::alloc::Global;
@@ -82,7 +82,7 @@ pub fn put_epoch<P: Store>(alloc: Global, store: &mut P, epoch: u64) -> Result<(
     requires live { (P.state store.old).live ≡ true }
     requires sound { Sound (P.state store.old) }
     requires least { 1 ≤ epoch }
-    requires most { epoch ≤ 2 ^ 62 }
+    requires most { epoch ≤ NUMBER_LIMIT }
     ensures put { Commits (epoch_put epoch) (P.state store.old) (P.state store.new) result }
     ensures sound { Sound (P.state store.new) }
 {

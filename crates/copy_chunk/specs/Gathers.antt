@@ -5,7 +5,7 @@ use Rattle.std.specs.List.{AllByRecursion}
 use Rattle.std.specs.Option.{option_map}
 use Rattle.std.specs.Ordering.{is_lt}
 use Rattle.std.specs.FinMap as fin
-use Rattle.obj_model.specs.Limits.{body_limit, attrs_limit, omap_limit, value_limit, number_limit}
+use Rattle.obj_model.specs.Limits.{body_limit, attrs_limit, omap_limit, value_limit, number_limit, vector_limit}
 use Rattle.obj_model.specs.Names.{name_cmp}
 use Rattle.obj_model.specs.States.{unknown}
 use Rattle.obj_model.specs.declared.limits.TheConstants.{CLIENT_LIMIT}
@@ -135,7 +135,7 @@ body_fits body bytes = nat_lt 0 (length bytes) && nat_le (length body + length b
 -- a refusal names a sub-operation of a vector
 abbrev pub reply_fits : Reply → Bool
 reply_fits (Done ver) = true
-reply_fits (Refused at why ver) = nat_lt at 16
+reply_fits (Refused at why ver) = nat_lt at vector_limit
 
 -- a kept request within its limits
 abbrev pub kept_fits : Kept → Bool

@@ -75,6 +75,10 @@ contains s q = kind_contains s.kind s.names q
 abbrev pub inserted : Hits → List ℕ → Hits
 inserted s n = if contains s n then s else record s { names = s.names ++ n ∷ [] }
 
--- a hit set is full after 4,096 insertions that changed it
+-- how many insertions that changed it make a hit set full
+abbrev pub full_at : ℕ
+full_at = 4096
+
+-- a hit set is full after so many insertions that changed it
 abbrev pub is_full : Hits → Bool
-is_full s = nat_le 4096 (length s.names)
+is_full s = nat_le full_at (length s.names)

@@ -1,6 +1,6 @@
 //! Hit sets of any kind.
 ghost use Rattle.std.specs.Prelude.{◌≡◌, IfOk, OnOk, OnErr, IsOk, not};
-ghost use Rattle.hit_sets.specs.Sets.{empty, contains, inserted, is_full};
+ghost use Rattle.hit_sets.specs.Sets.{empty, contains, inserted, full_at, is_full};
 ghost use Rattle.hit_sets.specs.Steps.{IsBloom};
 ghost use Rattle.hit_sets.specs.Marks.{IsUnmarked, Inserts};
 
@@ -44,7 +44,7 @@ impl Model for HitSet {
       names = marked_names s.marks;
     } };
 
-    ghost invariant = { λ s. s.changes ≡ min (length (marked_names s.marks)) 4096 };
+    ghost invariant = { λ s. s.changes ≡ min (length (marked_names s.marks)) full_at };
 }
 
 // Nothing, of a kind.

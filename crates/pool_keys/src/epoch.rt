@@ -1,5 +1,5 @@
 //! The value under the key of a pool's epoch.
-ghost use Rattle.std.specs.Prelude.{◌≡◌, ◌≤◌, ◌^◌, ℕ, IfOk, IfNone, IfSome};
+ghost use Rattle.std.specs.Prelude.{◌≡◌, ◌≤◌, ℕ, IfOk, IfNone, IfSome};
 ghost use Rattle.rec_codec.specs.Reading.{number_at, whole};
 ghost use Rattle.pool_keys.specs.Values.{SpellsEpoch};
 
@@ -10,7 +10,7 @@ use std::alloc::Global;
 /// The spelling of an epoch.
 pub fn write_epoch(alloc: Global, epoch: u64) -> Result<Bytes, NoMemory>
     requires least { 1 ≤ epoch }
-    requires most { epoch ≤ 2 ^ 62 }
+    requires most { epoch ≤ NUMBER_LIMIT }
     ensures { IfOk result (λ bytes. SpellsEpoch bytes epoch) }
 {
     let mut bytes = [0u8; 8];

@@ -4,7 +4,7 @@ use Rattle.std.specs.List.{list_any}
 use Rattle.std.specs.Ordering.{is_lt}
 use Rattle.std.specs.FinMap as fin
 use Rattle.byteorder.specs.Endian.{big_number}
-use Rattle.obj_model.specs.Limits.{attrs_limit, body_limit, number_limit, omap_limit, value_limit}
+use Rattle.obj_model.specs.Limits.{attrs_limit, body_limit, number_limit, omap_limit, value_limit, client_limit, vector_limit, store_key_limit, store_value_limit, txn_limit}
 use Rattle.obj_model.specs.Names.{name_cmp, name_fault}
 use Rattle.obj_model.specs.declared.change.Change.{Change}
 use Rattle.obj_model.specs.declared.change.Change.TheVariants.{Put, Remove}
@@ -106,7 +106,7 @@ why_at = behind_at (number_at 1) why_behind
 
 -- the place, the reason and the version of a refusal
 abbrev pub refused_at : Reader Reply
-refused_at = as_at (then_at (if_at (number_at 1) (λ at. nat_lt at 16))
+refused_at = as_at (then_at (if_at (number_at 1) (λ at. nat_lt at vector_limit))
     (λ _. then_at why_at (λ _. number_at 8))) (λ r. Refused r.0 r.1.0 r.1.1)
 
 -- what stands behind the tag of a reply
@@ -120,7 +120,8 @@ reply_at = behind_at (number_at 1) reply_behind
 
 -- a kept request
 unfoldable pub kept_at : Reader Kept
-kept_at = as_at (then_at (if_at (number_at 2) (λ client. nat_le 1 client && nat_le client 256))
+kept_at = as_at (then_at
+    (if_at (number_at 2) (λ client. nat_le 1 client && nat_le client client_limit))
     (λ _. then_at (if_at (number_at 8) (λ tid. nat_le tid number_limit)) (λ _. reply_at)))
     (λ k. record {
       client = k.0;
@@ -196,12 +197,14 @@ tier_at =
 
 -- the key of a store
 unfoldable pub store_key_at : Reader (List ℕ)
-store_key_at = behind_at (if_at (number_at 2) (λ n. nat_le 1 n && nat_le n 256)) taken_at
+store_key_at =
+    behind_at (if_at (number_at 2) (λ n. nat_le 1 n && nat_le n store_key_limit)) taken_at
 
 -- what stands behind the tag of a change
 abbrev pub change_behind : ℕ → Reader Change
 change_behind tag bytes =
-    if tag == 1 then as_at (then_at store_key_at (λ _. string_at 16777216)) (λ p. Put p.0 p.1) bytes
+    if tag == 1 then
+    as_at (then_at store_key_at (λ _. string_at store_value_limit)) (λ p. Put p.0 p.1) bytes
     else if tag == 2 then as_at store_key_at Remove bytes else None
 
 -- a change
@@ -223,7 +226,7 @@ are_apart (c ∷ cs) = not (is_among cs (key_of c)) && are_apart cs
 
 -- a transaction
 unfoldable pub txn_at : Reader (List Change)
-txn_at = behind_at (if_at (number_at 1) (λ n. nat_le 1 n && nat_le n 8))
+txn_at = behind_at (if_at (number_at 1) (λ n. nat_le 1 n && nat_le n txn_limit))
     (λ n. if_at (changes_at n) are_apart)
 
 -- what all of the bytes are

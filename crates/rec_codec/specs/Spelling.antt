@@ -5,7 +5,7 @@ use Rattle.std.specs.List.{flat_map, AllByRecursion}
 use Rattle.std.specs.FinMap as fin
 use Rattle.byteorder.specs.Endian.{big_bytes}
 use Rattle.obj_model.specs.Names.{name_cmp, name_fault}
-use Rattle.obj_model.specs.Limits.{number_limit}
+use Rattle.obj_model.specs.Limits.{number_limit, client_limit, payload_limit}
 use Rattle.obj_model.specs.States.{IsState}
 use Rattle.obj_model.specs.Fields.{Field, Number, Bytes, Key, After, fields}
 use Rattle.obj_model.specs.Vectors.{vector_fault}
@@ -203,13 +203,13 @@ req_bytes r =
 -- a client and a request number within their limits
 pub record IsReq (r : Req) : Type 0 where
   pub client_low : 1 ≤ r.client
-  pub client_high : r.client ≤ 256
+  pub client_high : r.client ≤ client_limit
   pub tid_high : r.tid ≤ number_limit
 
 -- what a field carries is of its type: numbers have 64 bits, keys are names
 abbrev pub IsField : Field → Type 0
 IsField (Number n) = n < 2 ^ 64
-IsField (Bytes bytes) = length bytes ≤ 16777216
+IsField (Bytes bytes) = length bytes ≤ payload_limit
 IsField (Key key) = name_fault key ≡ None
 IsField (After None) = Unit {0}
 IsField (After (Some key)) = name_fault key ≡ None

@@ -6,7 +6,7 @@ ghost use Rattle.obj_model.specs.States.{IsTable, IsObjOrNone, IsState};
 ghost use Rattle.rec_codec.specs.Spelling.{name, string, why, reply, kept, kept_list, table, object_or_none, state_bytes, IsFitWhy, IsFitReply, IsNamed, IsNamedObj, IsTyped, SpellsState};
 
 use crate::put::{put_name, put_string, put_u16, put_u64};
-use obj_model::{Kept, NameState, NoMemory, Obj, PairMap, Reply, Why};
+use obj_model::{Kept, NameState, NoMemory, OMAP_LIMIT, Obj, PairMap, Reply, Why};
 use std::alloc::{AllocError, Global};
 
 fn put_why(out: &mut Vec<u8>, reason: Why) -> Result<(), AllocError>
@@ -71,7 +71,7 @@ fn put_kept_list(out: &mut Vec<u8>, list: &[Kept]) -> Result<(), AllocError>
 
 // The pairs of a table behind their number.
 fn put_table(out: &mut Vec<u8>, pairs: &PairMap) -> Result<(), AllocError>
-    requires { IsTable 1024 pairs.now }
+    requires { IsTable OMAP_LIMIT pairs.now }
     ensures put { OnOk result (out.new.items ≡ out.old.items ++ table pairs.now) }
     ensures named { OnOk result (IsNamed pairs.now) }
 {

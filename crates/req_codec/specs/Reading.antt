@@ -1,6 +1,6 @@
 -- Requests from left to right: a value and the bytes after it, or nothing.
 use Rattle.std.specs.Prelude.{ℕ, Bool, true, not, List, [], ◌∷◌, Option, Some, None, nat_le, is_some, ◌==◌, ◌&&◌, if◌then◌else◌}
-use Rattle.obj_model.specs.Limits.{number_limit}
+use Rattle.obj_model.specs.Limits.{number_limit, client_limit, payload_limit}
 use Rattle.obj_model.specs.Vectors.{vector_fault}
 use Rattle.obj_model.specs.declared.req.Req.{Req}
 use Rattle.obj_model.specs.declared.sub_op.SubOp.{SubOp}
@@ -19,7 +19,7 @@ word_at = number_at 8
 
 -- bytes
 abbrev pub text_at : Reader (List ℕ)
-text_at = string_at 16777216
+text_at = string_at payload_limit
 
 -- two numbers
 abbrev pub words_at : Reader (ℕ × ℕ)
@@ -127,7 +127,7 @@ vector_at = behind_at (number_at 1) (λ n. if_at (ops_at n) is_vector)
 -- a client, a request number, a name and a vector
 abbrev pub parts_at : Reader (ℕ × (ℕ × (List ℕ × List SubOp)))
 parts_at =
-    then_at (if_at (number_at 2) (λ client. nat_le 1 client && nat_le client 256)) (λ _.
+    then_at (if_at (number_at 2) (λ client. nat_le 1 client && nat_le client client_limit)) (λ _.
     then_at (if_at (number_at 8) (λ tid. nat_le tid number_limit)) (λ _.
     then_at name_at (λ _. vector_at)))
 

@@ -6,7 +6,7 @@ use Rattle.std.specs.Result.{result_ok}
 use Rattle.std.specs.Char.{is_ascii_digit}
 use Rattle.std.specs.Str.Parse.{digits_value}
 use Rattle.hex.specs.Hex.{decode_of}
-use Rattle.obj_model.specs.Limits.{number_limit}
+use Rattle.obj_model.specs.Limits.{number_limit, client_limit}
 use Rattle.obj_model.specs.Names.{name_fault}
 use Rattle.obj_model.specs.SubOps.{is_write}
 use Rattle.obj_model.specs.Vectors.{vector_fault}
@@ -276,7 +276,7 @@ vector_of writes words =
 
 -- a client's number is 1 to 256
 abbrev pub client_of : ℕ → Result ℕ Cause
-client_of number = only_if (nat_le 1 number && nat_le number 256) cause.Client number
+client_of number = only_if (nat_le 1 number && nat_le number client_limit) cause.Client number
 
 -- the first word as a number
 abbrev pub line_number_at : List (List ℕ) → Result ℕ Cause

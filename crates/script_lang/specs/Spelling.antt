@@ -3,7 +3,7 @@ use Rattle.std.specs.Prelude.{◌≡◌, ◌≤◌, ℕ, true, false, List, [], 
 use Rattle.std.specs.List.{AllByRecursion, join_with_byte, list_any}
 use Rattle.hex.specs.Hex.{encode_lower, IsBytes}
 use Rattle.obj_model.specs.Fields.{Field, Number, Bytes, Key, After, fields}
-use Rattle.obj_model.specs.Limits.{number_limit}
+use Rattle.obj_model.specs.Limits.{number_limit, client_limit}
 use Rattle.obj_model.specs.Names.{name_fault}
 use Rattle.obj_model.specs.SubOps.{is_write}
 use Rattle.obj_model.specs.Vectors.{vector_fault}
@@ -84,7 +84,7 @@ spelling line = join_with_byte 0x20 (line_words line)
 -- a client's number is 1 to 256
 pub record IsClient (client : ℕ) : Type 0 where
   pub low : 1 ≤ client
-  pub high : client ≤ 256
+  pub high : client ≤ client_limit
 
 -- what each line carries: a client, a name and a vector within their limits
 pub record IsAddressed (client : ℕ) (name : List ℕ) (vector : List SubOp) : Type 0 where

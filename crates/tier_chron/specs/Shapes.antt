@@ -1,7 +1,7 @@
 -- The shape of a history: what its entries show of one another and of the calls, whatever the
 -- stores were. Over stores that tell nothing no more is said: an opening can have any state there,
 -- and a request that is sent twice can act and yet be told that it is late.
-use Rattle.std.specs.Prelude.{◌≡◌, ◌≢◌, ◌≤◌, ◌<◌, ◌+◌, ◌^◌, ℕ, Bool, true, false, not, ◌&&◌, ◌||◌, List, [], ◌∷◌, take, length, Option, Some, None}
+use Rattle.std.specs.Prelude.{◌≡◌, ◌≢◌, ◌≤◌, ◌<◌, ◌+◌, ℕ, Bool, true, false, not, ◌&&◌, ◌||◌, List, [], ◌∷◌, take, length, Option, Some, None}
 use Rattle.std.specs.List.{AllByRecursion}
 use Rattle.obj_model.specs.declared.reply.Reply.{Reply}
 use Rattle.obj_model.specs.declared.reply.Reply.TheVariants as reply
@@ -22,6 +22,7 @@ use Rattle.tier_chron.specs.declared.asked.Asked.{Asked}
 use Rattle.tier_chron.specs.declared.asked.Asked.TheVariants.{Write, Read, Flush, Finish, Evict, Drain, Agent, Start}
 use Rattle.tier_chron.specs.declared.entries.Act.{Act}
 use Rattle.tier_chron.specs.declared.entries.Logged.{Logged}
+use Rattle.obj_model.specs.Limits.{number_limit}
 
 -- ---- acts and their calls
 
@@ -180,7 +181,7 @@ may_answer Start x = is_start_fault x
 -- cache above its target, an epoch that rose, a record that is another than the one written back,
 -- too much for the room. Whose numbers they are is said where pools and calls are known.
 abbrev pub NumbersAgree : Answer → Type 0
-NumbersAgree (answer.Worn limit) = limit ≡ 2 ^ 62
+NumbersAgree (answer.Worn limit) = limit ≡ number_limit
 NumbersAgree (answer.Full micro) = 1000000 < micro
 NumbersAgree (answer.Restarted was now) = was < now
 NumbersAgree (answer.Again flushed now) = flushed ≢ now

@@ -1,5 +1,5 @@
 -- What is proved of the moves: each keeps the pair sound.
-use Rattle.std.specs.Prelude.{◌≡◌, ◌≤◌, ◌<◌, ℕ, ◌^◌, Bool, true, false, List, [], Option, Some, None}
+use Rattle.std.specs.Prelude.{◌≡◌, ◌≤◌, ◌<◌, ℕ, Bool, true, false, List, [], Option, Some, None}
 use Rattle.std.specs.FinMap as map
 use Rattle.copy_chunk.specs.declared.chunk.Chunk.{Chunk}
 use Rattle.obj_model.specs.declared.reply.Reply.{Reply}
@@ -10,6 +10,7 @@ use Rattle.tier_types.specs.Flights.{IsLeftOf}
 use Rattle.tier_protocol.specs.Tiers.{Name, Ask, Flight, TierRec, BaseMsg, BaseActed, Phase, Recs, Tier, IsIn, cell_of, plain_of}
 use Rattle.tier_protocol.specs.Sound.{AreFresh, IsBehind, IsSound, Shows, is_dirty}
 use Rattle.tier_protocol.specs.Moves.{acted_here, begun, cleaned, counted_raised, delivered, drained, epoch_found, evicted, filled, gathered, landed, promoted, raised_to, sent, stopped_base, stopped_cache, went_up, with_flight, Loses, MayActHere, MayBegin, MayClean, MayCount, MayEvict, MayFill, MayGather, MayGoUp, MayLand, MayPromote, MayRaise, MaySend}
+use Rattle.obj_model.specs.Limits.{number_limit}
 
 -- ---- the base
 
@@ -135,7 +136,7 @@ pub record StandsFor (recs : Recs) (base plain : Store) : Type 0 where
   pub behind : (n : Name) → IsBehind (state_of base n) (state_of plain n)
   pub clean : (n : Name) → is_dirty (map.get recs n) ≡ false → state_of base n ≡ state_of plain n
   pub shows : (n : Name) → Shows (map.get recs n) (state_of plain n)
-  pub few : (n : Name) → (state_of plain n).seq ≤ 2 ^ 62
+  pub few : (n : Name) → (state_of plain n).seq ≤ number_limit
 
 -- what stands for a store is sound as it is found
 abbrev pub FoundIsSound : Type 0

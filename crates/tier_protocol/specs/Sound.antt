@@ -1,5 +1,5 @@
 -- What holds of the pair in every moment: the memory is sound, and each name stands as it has to.
-use Rattle.std.specs.Prelude.{◌≡◌, ◌≢◌, ◌≤◌, ◌<◌, ◌⊎◌, ℕ, ◌^◌, Bool, true, false, List, [], ◌∷◌, Option, Some, None}
+use Rattle.std.specs.Prelude.{◌≡◌, ◌≢◌, ◌≤◌, ◌<◌, ◌⊎◌, ℕ, Bool, true, false, List, [], ◌∷◌, Option, Some, None}
 use Rattle.copy_chunk.specs.Chunks.{chunk_at, chunks_of}
 use Rattle.copy_chunk.specs.Gathers.{IsFront}
 use Rattle.copy_chunk.specs.declared.chunk.Chunk.{Chunk}
@@ -13,6 +13,7 @@ use Rattle.tier_types.specs.Flights.{is_bare}
 use Rattle.tier_types.specs.Serving.{lasting}
 use Rattle.tier_protocol.specs.Tiers.{Name, Ask, Flight, ReadFlight, TierRec, BaseMsg, BaseReply, Phase, Net, Tier, Cell, IsIn, cell_of}
 use Rattle.tier_protocol.specs.Memory.{SoundMemory}
+use Rattle.obj_model.specs.Limits.{number_limit}
 
 -- ---- epochs of the pools
 
@@ -101,7 +102,7 @@ Covers s r = is_past (act s r) ≡ true
 -- place.
 abbrev pub IsSpent : Name → Cell → Net → Req → Type 0
 IsSpent n c net r =
-    (c.base.seq ≡ 2 ^ 62)
+    (c.base.seq ≡ number_limit)
     ⊎ (Covers c.base r × Covers c.plain r
     × ((e op : ℕ) (t : NameState) → IsIn (BaseMsg.Install e op n t) net.wire → c.base.seq < t.seq
     → Covers t r))
@@ -125,7 +126,7 @@ pub record SoundAt (n : Name) (c : Cell) (net : Net) : Type 0 where
   pub clean : is_dirty c.rec ≡ false → c.base ≡ c.plain
   -- a record has the plain store's state
   pub shows : Shows c.rec c.plain
-  pub few : c.plain.seq ≤ 2 ^ 62
+  pub few : c.plain.seq ≤ number_limit
   -- a promotion, a write request or reads stand only where there is no record
   pub bare : is_bare c.flight ≡ true → c.rec ≡ None
   -- what a promotion has gathered are the first chunks of the base's state

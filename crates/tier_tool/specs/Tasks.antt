@@ -1,5 +1,5 @@
 -- What lines of a script ask of the base, and the first line that asks for something else.
-use Rattle.std.specs.Prelude.{◌≡◌, ◌≤◌, ◌^◌, ℕ, Bool, true, false, List, ◌∷◌, ◌++◌, map, Option}
+use Rattle.std.specs.Prelude.{◌≡◌, ◌≤◌, ℕ, Bool, true, false, List, ◌∷◌, ◌++◌, map, Option}
 use Rattle.std.specs.Prelude.{Some, None}
 use Rattle.std.specs.List.{list_any}
 use Rattle.obj_model.specs.SubOps.{is_write}
@@ -12,6 +12,7 @@ use Rattle.tier_tool.specs.declared.task.Task.{Task}
 use Rattle.tier_tool.specs.declared.task.Task.TheVariants as task
 use Rattle.tier_tool.specs.declared.task.Untold.{Untold}
 use Rattle.tier_tool.specs.declared.task.Untold.TheVariants.{Unbuilt, NoMemory}
+use Rattle.obj_model.specs.Limits.{number_limit}
 
 -- the name that a line speaks of
 abbrev pub name_of : Task → List ℕ
@@ -41,7 +42,7 @@ AsksFor l None = is_built l ≡ false
 -- a request within its limits, which writes; or a reading, which does not
 abbrev pub IsTask : Task → Type 0
 IsTask (task.Op req) =
-    IsAddressed req.client req.name req.vector × (req.tid ≤ 2 ^ 62)
+    IsAddressed req.client req.name req.vector × (req.tid ≤ number_limit)
     × (list_any is_write req.vector ≡ true)
 IsTask (task.Get client name vector) =
     IsAddressed client name vector × (list_any is_write vector ≡ false)
