@@ -20,7 +20,7 @@ use Rattle.obj_ops.specs.declared.request.Acted.TheVariants.{Fresh, Again, Stale
 use Rattle.obj_ops.proofs.Replays.{counts_rise}
 use Rattle.pool_keys.specs.Keys.{epoch_key, state_key}
 use Rattle.pool_keys.specs.Left.{IsBefore, IsBeforeBy, IsLeft, IsLeftBy, IsLeftSince}
-use Rattle.pool_keys.specs.Values.{IsEpochOf, IsStateOf}
+use Rattle.pool_keys.specs.Values.{IsAtEpoch, IsEpochOf, IsStateOf}
 use Rattle.pool_keys.proofs.Bases.{state_one}
 use Rattle.pool_keys.proofs.Epochs.{epoch_one}
 use Rattle.pool_keys.proofs.Leaving.{live_one}
@@ -33,7 +33,7 @@ use Rattle.tier_types.specs.declared.message.BaseMsg.{BaseMsg}
 use Rattle.tier_types.specs.declared.message.BaseReply.{BaseReply}
 use Rattle.base_pool.specs.Laws.{IsNoLower, IsServedTo, LowersNothing, NothingFalls}
 use Rattle.base_pool.specs.Serves.{IsSpelled, Serves, epoch_put, is_taken, state_put}
-use Rattle.base_pool.specs.Views.{BaseView, Has, IsAt, IsLive, SoundBase}
+use Rattle.base_pool.specs.Views.{BaseView, Has, IsLive, SoundBase}
 use Rattle.base_pool.specs.declared.fault.BaseFault.{BaseFault}
 use Rattle.base_pool.proofs.Outcomes.{before_has, serve_cases}
 use Rattle.base_pool.proofs.Sounding.{epoch_changed, epoch_rises}
@@ -143,7 +143,7 @@ before_left (Some ss) t h = inl h
 
 lower_itself : (t u : Table) → t ≡ u → IsNoLower t u
 lower_itself t u same = record {
-  epochs = λ e f at is. let one = epoch_one (fin.get u epoch_key) e f (subst (IsAt e) same at) is in omega (arith, one);
+  epochs = λ e f at is. let one = epoch_one (fin.get u epoch_key) e f (subst (IsAtEpoch e) same at) is in omega (arith, one);
   seqs = λ name s r has is. same_seq s r (state_one (fin.get u (state_key name)) s r (subst (Has name s) same has) is);
 }
 
@@ -158,13 +158,13 @@ newer_than msg old t h n x named put q has =
 lower_served : (msg : BaseMsg) (old : BaseView) (u : Table) (h : IsServedTo msg old u) → IsLive old → SoundBase old → IsNoLower h.was u
 lower_served msg old u h on sound =
     let x = served old.epoch h.state msg in
-    let at : IsAt old.epoch h.was = before_has old.store (IsAt old.epoch) h.was h.before (sound.epoch on.opened on.live) in
+    let at : IsAtEpoch old.epoch h.was = before_has old.store (IsAtEpoch old.epoch) h.was h.before (sound.epoch on.opened on.live) in
     let rises = epoch_rises old.epoch h.state msg in
     record {
       epochs = λ e f was is.
           let one = epoch_one (fin.get h.was epoch_key) e old.epoch was at in
           let two = epoch_one (fin.get u epoch_key) f x.epoch is
-          (subst (IsAt x.epoch) (sym h.is) (epoch_changed old.epoch x.epoch (name_in msg) x.put h.was rises (h.low sound.low) at)) in
+          (subst (IsAtEpoch x.epoch) (sym h.is) (epoch_changed old.epoch x.epoch (name_in msg) x.put h.was rises (h.low sound.low) at)) in
           omega (arith, one, two, rises);
       seqs = λ name s r has is.
           changed_seq x.epoch (name_in msg) x.put h.was name s r (nat_lt old.epoch x.epoch) h.spelled (newer_than msg old u h) has (subst (Has name r) h.is is);

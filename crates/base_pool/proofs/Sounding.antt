@@ -12,7 +12,7 @@ use Rattle.obj_model.specs.declared.change.Change.{Change}
 use Rattle.obj_model.specs.declared.change.Change.TheVariants.{Put}
 use Rattle.obj_model.specs.declared.state.NameState.{NameState}
 use Rattle.pool_keys.specs.Keys.{epoch_key, state_key}
-use Rattle.pool_keys.specs.Values.{IsEpochOf, SpellsEpoch}
+use Rattle.pool_keys.specs.Values.{IsAtEpoch, IsEpochOf, SpellsEpoch}
 use Rattle.rec_codec.specs.Spelling.{state_bytes}
 use Rattle.store_face.specs.Calls.{Both, Made, Stays}
 use Rattle.store_face.specs.Rooms.{Room}
@@ -26,7 +26,7 @@ use Rattle.tier_types.specs.declared.message.BaseMsg.{BaseMsg}
 use Rattle.tier_types.specs.declared.message.BaseReply.{BaseReply}
 use Rattle.base_pool.specs.Serves.{Answers, FailsBase, Faults, Makes, Replies, Serves, StaysBase, changes_by, epoch_put, state_put}
 use Rattle.base_pool.specs.Steps.{base_of}
-use Rattle.base_pool.specs.Views.{BaseView, IsAt, IsLive, SoundBase}
+use Rattle.base_pool.specs.Views.{BaseView, IsLive, SoundBase}
 use Rattle.base_pool.specs.declared.fault.BaseFault.{BaseFault}
 use Rattle.base_pool.specs.declared.fault.BaseFault.TheVariants.{Store, BadRecord}
 use Rattle.store_face.proofs.Later.{holds_on}
@@ -86,26 +86,26 @@ spelled : (have epoch : ℕ) → have < epoch → epoch ≤ number_limit → Spe
 spelled have epoch less low = record { spelled = refl; least = omega (arith, less); most = low }
 
 -- what the changes of a message leave under the key of the epoch
-at_states : (have epoch : ℕ) (name : Option (List ℕ)) (put : Option NameState) (t : Table) → have ≡ epoch → IsAt have t → IsAt epoch (changed_by t (state_put name put))
-at_states have epoch None put t same at = subst (λ e. IsAt e t) same at
-at_states have epoch (Some name) None t same at = subst (λ e. IsAt e t) same at
+at_states : (have epoch : ℕ) (name : Option (List ℕ)) (put : Option NameState) (t : Table) → have ≡ epoch → IsAtEpoch have t → IsAtEpoch epoch (changed_by t (state_put name put))
+at_states have epoch None put t same at = subst (λ e. IsAtEpoch e t) same at
+at_states have epoch (Some name) None t same at = subst (λ e. IsAtEpoch e t) same at
 at_states have epoch (Some name) (Some s) t same at =
-    subst (λ o. IsEpochOf o epoch) (sym (epoch_stays t name (state_bytes s))) (subst (λ e. IsAt e t) same at)
+    subst (λ o. IsEpochOf o epoch) (sym (epoch_stays t name (state_bytes s))) (subst (λ e. IsAtEpoch e t) same at)
 
 at_raise : (have epoch : ℕ) (name : Option (List ℕ)) (put : Option NameState) (t : Table) → have < epoch → epoch ≤ number_limit
-    → IsAt epoch (changed_by t (Put epoch_key (big_bytes 8 epoch) ∷ state_put name put))
+    → IsAtEpoch epoch (changed_by t (Put epoch_key (big_bytes 8 epoch) ∷ state_put name put))
 at_raise have epoch name put t less low =
     at_states epoch epoch name put (fin.insert t epoch_key (big_bytes 8 epoch)) refl
     (subst (λ o. IsEpochOf o epoch) (sym (get_put t epoch_key (big_bytes 8 epoch))) (spelled have epoch less low))
 
 changed_at : (have epoch : ℕ) (name : Option (List ℕ)) (put : Option NameState) (t : Table) (raised : Bool) → nat_lt have epoch ≡ raised → have ≤ epoch → epoch ≤ number_limit
-    → IsAt have t → IsAt epoch (changed_by t (cond raised (Put epoch_key (big_bytes 8 epoch) ∷ []) [] ++ state_put name put))
+    → IsAtEpoch have t → IsAtEpoch epoch (changed_by t (cond raised (Put epoch_key (big_bytes 8 epoch) ∷ []) [] ++ state_put name put))
 changed_at have epoch name put t true raised low few at = at_raise have epoch name put t (ltb-true have epoch raised) few
 changed_at have epoch name put t false raised low few at = at_states have epoch name put t (omega (arith, low, ltb-false have epoch raised)) at
 
 -- the epoch of a map with a message's changes
-pub epoch_changed : (have epoch : ℕ) (name : Option (List ℕ)) (put : Option NameState) (t : Table) → have ≤ epoch → epoch ≤ number_limit → IsAt have t
-    → IsAt epoch (changed_by t (epoch_put have epoch ++ state_put name put))
+pub epoch_changed : (have epoch : ℕ) (name : Option (List ℕ)) (put : Option NameState) (t : Table) → have ≤ epoch → epoch ≤ number_limit → IsAtEpoch have t
+    → IsAtEpoch epoch (changed_by t (epoch_put have epoch ++ state_put name put))
 epoch_changed have epoch name put t low few at = changed_at have epoch name put t (nat_lt have epoch) refl low few at
 
 makes_by : (changes : List Change) (a b : StoreView) (P Q : Table → Type 0) → Makes changes a b → ((t : Table) → P t → Q (changed_by t changes)) → Holds a P → Holds b Q
@@ -121,11 +121,11 @@ makes_by [] a b P Q stays step has =
 makes_by (c ∷ cs) a b P Q made step has = made_holds (c ∷ cs) a b P Q made step has
 
 epoch_made : (have epoch : ℕ) (name : Option (List ℕ)) (put : Option NameState) (a b : StoreView) (raised : Bool) → nat_lt have epoch ≡ raised → have ≤ epoch → epoch ≤ number_limit
-    → Makes (cond raised (Put epoch_key (big_bytes 8 epoch) ∷ []) [] ++ state_put name put) a b → Holds a (IsAt have) → Holds b (IsAt epoch)
+    → Makes (cond raised (Put epoch_key (big_bytes 8 epoch) ∷ []) [] ++ state_put name put) a b → Holds a (IsAtEpoch have) → Holds b (IsAtEpoch epoch)
 epoch_made have epoch name put a b true raised low few makes at =
-    makes_by (Put epoch_key (big_bytes 8 epoch) ∷ state_put name put) a b (IsAt have) (IsAt epoch) makes (λ t is. at_raise have epoch name put t (ltb-true have epoch raised) few) at
+    makes_by (Put epoch_key (big_bytes 8 epoch) ∷ state_put name put) a b (IsAtEpoch have) (IsAtEpoch epoch) makes (λ t is. at_raise have epoch name put t (ltb-true have epoch raised) few) at
 epoch_made have epoch name put a b false raised low few makes at =
-    makes_by (state_put name put) a b (IsAt have) (IsAt epoch) makes (λ t is. at_states have epoch name put t (omega (arith, low, ltb-false have epoch raised)) is) at
+    makes_by (state_put name put) a b (IsAtEpoch have) (IsAtEpoch epoch) makes (λ t is. at_states have epoch name put t (omega (arith, low, ltb-false have epoch raised)) is) at
 
 -- ---- what always holds of a base
 
@@ -133,8 +133,8 @@ pub stays_sound : (old new : BaseView) → StaysBase old new → Sound new.store
 stays_sound old new h sound was = record {
   sound = sound;
   low = subst (λ e. e ≤ number_limit) (sym h.epoch) was.low;
-  epoch = λ opened live. subst (λ e. Holds new.store (IsAt e)) (sym h.epoch)
-      (holds_on old.store new.store (IsAt old.epoch) h.store (was.epoch (sym h.opened ∙ opened) (sym h.store.live ∙ live)));
+  epoch = λ opened live. subst (λ e. Holds new.store (IsAtEpoch e)) (sym h.epoch)
+      (holds_on old.store new.store (IsAtEpoch old.epoch) h.store (was.epoch (sym h.opened ∙ opened) (sym h.store.live ∙ live)));
 }
 
 pub fails_sound : (old new : BaseView) → FailsBase old new → Sound new.store → SoundBase old → SoundBase new
@@ -152,7 +152,7 @@ answers_sound msg old new reply h on sound was =
     record {
       sound = sound;
       low = low;
-      epoch = λ opened live. subst (λ e. Holds new.store (IsAt e)) (sym h.epoch)
+      epoch = λ opened live. subst (λ e. Holds new.store (IsAtEpoch e)) (sym h.epoch)
           (epoch_made old.epoch x.epoch (name_in msg) x.put old.store new.store (nat_lt old.epoch x.epoch) refl (epoch_rises old.epoch h.state msg) few h.makes
           (was.epoch on.opened on.live));
     }

@@ -18,8 +18,9 @@ use Rattle.tier_types.specs.declared.message.BaseActed.{BaseActed}
 use Rattle.tier_types.specs.declared.message.BaseMsg.{BaseMsg}
 use Rattle.tier_types.specs.declared.message.BaseReply.{BaseReply}
 use Rattle.base_pool.specs.Serves.{IsOn, IsSpelled, Serves, StaysBase, changes_by}
-use Rattle.base_pool.specs.Views.{BaseView, Has, IsAt, IsLive, SoundBase}
+use Rattle.base_pool.specs.Views.{BaseView, Has, IsLive, SoundBase}
 use Rattle.base_pool.specs.declared.fault.BaseFault.{BaseFault}
+use Rattle.pool_keys.specs.Values.{IsAtEpoch}
 
 -- ---- what a stop leaves
 
@@ -136,7 +137,7 @@ pub record ChunksGather : Type 0 where
 
 -- a map is of no lower epoch, and no name has a lower `seq` there
 pub record IsNoLower (t u : Table) : Type 0 where
-  pub epochs : (e f : ℕ) → IsAt e t → IsAt f u → e ≤ f
+  pub epochs : (e f : ℕ) → IsAtEpoch e t → IsAtEpoch f u → e ≤ f
   pub seqs : (name : List ℕ) (s r : NameState) → Has name s t → Has name r u → s.seq ≤ r.seq
 
 -- no message lowers the epoch or the `seq` of a name, in memory or in any map that a stop may leave

@@ -1,30 +1,23 @@
 -- What attaching a base, opening it anew, and reading a state do.
 use Rattle.std.specs.Prelude.{◌≡◌, ◌⊎◌, ◌≤◌, ℕ, true, false, List, [], ◌∷◌, Option, Some, None, Result, Ok, Err}
-use Rattle.std.specs.FinMap as fin
 use Rattle.obj_model.specs.Limits.{number_limit}
 use Rattle.obj_model.specs.States.{IsState}
 use Rattle.obj_model.specs.declared.state.NameState.{NameState}
 use Rattle.store_face.specs.Calls.{Opens, ReadFails, Reopened, Stays}
-use Rattle.store_face.specs.Tables.{Table}
 use Rattle.store_face.specs.Views.{Holds, StoreView}
 use Rattle.store_face.specs.declared.fault.StoreFault.{StoreFault}
 use Rattle.pool_keys.specs.Keys.{epoch_key}
-use Rattle.pool_keys.specs.Values.{SpellsEpoch}
+use Rattle.pool_keys.specs.Values.{IsAtEpoch}
 use Rattle.base_pool.specs.Serves.{FailsBase, IsUnreadable, StaysBase}
-use Rattle.base_pool.specs.Views.{BaseView, Has, IsAt}
+use Rattle.base_pool.specs.Views.{BaseView, Has}
 use Rattle.base_pool.specs.declared.fault.BaseFault.{BaseFault}
 use Rattle.base_pool.specs.declared.fault.BaseFault.TheVariants.{Store, BadRecord}
-
--- the value under the key of the epoch spells none
-pub record HasNoEpoch (t : Table) : Type 0 where
-  pub bytes : List ℕ
-  pub there : fin.get t epoch_key ≡ Some bytes
-  pub none : (epoch : ℕ) → SpellsEpoch bytes epoch → ⊥
+use Rattle.pool_keys.specs.Reads.{HasNoEpoch}
 
 -- the epoch of a store was read, or why it was not; a value that spells none is told with the name
 -- E
 abbrev pub ReadsEpoch : StoreView → StoreView → Result ℕ BaseFault → Type 0
-ReadsEpoch old new (Ok epoch) = Stays old new × (epoch ≤ number_limit) × Holds old (IsAt epoch)
+ReadsEpoch old new (Ok epoch) = Stays old new × (epoch ≤ number_limit) × Holds old (IsAtEpoch epoch)
 ReadsEpoch old new (Err (Store fault)) = ReadFails fault old new
 ReadsEpoch old new (Err (BadRecord name)) =
     Stays old new × (name ≡ epoch_key) × Holds old HasNoEpoch
@@ -33,13 +26,13 @@ ReadsEpoch old new (Err (BadRecord name)) =
 pub record Attaches (store : StoreView) (v : BaseView) : Type 0 where
   pub stays : Stays store v.store
   pub opened : v.opened ≡ true
-  pub epoch : Holds store (IsAt v.epoch)
+  pub epoch : Holds store (IsAtEpoch v.epoch)
 
 -- a base was opened anew, at the epoch of the map that was found
 pub record OpensBase (old new : BaseView) : Type 0 where
   pub opens : Opens old.store new.store
   pub opened : new.opened ≡ true
-  pub epoch : Holds new.store (IsAt new.epoch)
+  pub epoch : Holds new.store (IsAtEpoch new.epoch)
 
 -- the store was opened anew, and then its epoch was not read
 pub record OpensUnread (old new : BaseView) (fault : BaseFault) : Type 0 where

@@ -4,8 +4,8 @@ use Rattle.std.specs.Coded.{Coded, code_by, coded×, coded_ℕ, coded_bool}
 use Rattle.std.specs.FinMap as fin
 use Rattle.obj_model.specs.Limits.{number_limit}
 use Rattle.obj_model.specs.declared.state.NameState.{NameState}
-use Rattle.pool_keys.specs.Keys.{epoch_key, state_key}
-use Rattle.pool_keys.specs.Values.{IsEpochOf, IsStateOf}
+use Rattle.pool_keys.specs.Keys.{state_key}
+use Rattle.pool_keys.specs.Values.{IsAtEpoch, IsStateOf}
 use Rattle.store_face.specs.Codes.{coded_store}
 use Rattle.store_face.specs.Tables.{Table}
 use Rattle.store_face.specs.Views.{Holds, Sound, StoreView}
@@ -25,15 +25,11 @@ pub record IsLive (v : BaseView) : Type 0 where
 abbrev pub Has : List ℕ → NameState → Table → Type 0
 Has name s t = IsStateOf (fin.get t (state_key name)) s
 
--- the map is at this epoch
-abbrev pub IsAt : ℕ → Table → Type 0
-IsAt epoch t = IsEpochOf (fin.get t epoch_key) epoch
-
 -- A live base is at the epoch that its map has. Its store has one map then.
 pub record SoundBase (v : BaseView) : Type 0 where
   pub sound : Sound v.store
   pub low : v.epoch ≤ number_limit
-  pub epoch : v.opened ≡ true → v.store.live ≡ true → Holds v.store (IsAt v.epoch)
+  pub epoch : v.opened ≡ true → v.store.live ≡ true → Holds v.store (IsAtEpoch v.epoch)
 
 -- ---- how it is written down as a value of contracts
 

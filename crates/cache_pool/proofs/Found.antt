@@ -3,8 +3,8 @@ use Rattle.std.proofs.Common.{◌≡◌, ◌≤◌, ℕ, List, Option, None, Som
 use Rattle.std.specs.FinMap as fin
 use Rattle.std.specs.Option.{IfNone}
 use Rattle.tier_outside.proofs.Moments.{now_weaker}
-use Rattle.pool_keys.specs.Keys.{epoch_key, record_key}
-use Rattle.pool_keys.specs.Values.{IsEpochOf, IsRecOf, SpellsEpoch}
+use Rattle.pool_keys.specs.Keys.{record_key}
+use Rattle.pool_keys.specs.Values.{IsRecOf}
 use Rattle.rec_codec.specs.Spelling.{SpellsParts, SpellsTier, TierParts}
 use Rattle.store_face.specs.Calls.{Got}
 use Rattle.store_face.specs.Tables.{Table}
@@ -12,19 +12,11 @@ use Rattle.store_face.specs.Views.{Holds, StoreView, no_map}
 use Rattle.store_face.specs.declared.fault.StoreFault.{StoreFault}
 use Rattle.store_face.specs.declared.fault.StoreFault.TheVariants as store
 use Rattle.tier_types.specs.declared.record.TierRec.{TierRec}
-use Rattle.cache_pool.specs.Reads.{HasNoEpoch, IsUnreadable, ReadsEpoch, ReadsRecord}
+use Rattle.cache_pool.specs.Reads.{IsUnreadable, ReadsRecord}
 use Rattle.cache_pool.specs.Steps.{Decodes}
 use Rattle.cache_pool.specs.declared.fault.CacheFault.TheVariants.{Store, BadRecord}
 use Rattle.store_face.proofs.Later.{stays_same}
-
--- what holds of the value that was read holds of the map's
-at_key : (v : StoreView) (key place : List ℕ) (P : Option (List ℕ) → Type 0)
-    (value : Option (List ℕ)) → key ≡ place → Holds v (λ t. value ≡ fin.get t key) → P value
-    → Holds v (λ t. P (fin.get t place))
-at_key v key place P value same h p =
-    now_weaker no_map v.moments (λ s. value ≡ fin.get s.before.table key)
-    (λ s. P (fin.get s.before.table place))
-    (λ s e. subst P (e ∙ ap (fin.get s.before.table) same) p) h
+use Rattle.pool_keys.proofs.Found.{at_key}
 
 -- ---- a record
 
@@ -73,41 +65,5 @@ pub record_memory : (key name : List ℕ) (value : Option (List ℕ)) (fault : S
 record_memory key name value fault a b e h =
     subst (λ f. ReadsRecord name a b (Err (Store f))) (sym e) h.0
 
--- ---- an epoch
-
-pub epoch_zero : (key : List ℕ) (a b : StoreView) → key ≡ epoch_key → Got key a b (Ok None)
-    → ReadsEpoch a b (Ok 0)
-epoch_zero key a b same h =
-    (omega arith, at_key a key epoch_key (λ o. IsEpochOf o 0) None same h.1 refl, h.0)
-
-pub epoch_some : (key bytes value : List ℕ) (epoch : ℕ) (a b : StoreView) → key ≡ epoch_key
-    → bytes ≡ value → Got key a b (Ok (Some value)) → SpellsEpoch bytes epoch
-    → ReadsEpoch a b (Ok epoch)
-epoch_some key bytes value epoch a b same e h spells = (
-  spells.most,
-  at_key a key epoch_key (λ o. IsEpochOf o epoch) (Some value) same h.1
-      (subst (λ x. SpellsEpoch x epoch) e spells),
-  h.0,
-)
-
-no_epoch_at : (t : Table) (key bytes value : List ℕ) → key ≡ epoch_key → bytes ≡ value
-    → Some value ≡ fin.get t key → ((epoch : ℕ) → SpellsEpoch bytes epoch → ⊥) → HasNoEpoch t
-no_epoch_at t key bytes value same e h none =
-    record { bytes = bytes; there = ap (fin.get t) (sym same) ∙ sym h ∙ ap Some (sym e); none = none }
-
-pub epoch_wrong : (key name bytes value : List ℕ) (a b : StoreView) → key ≡ epoch_key
-    → name ≡ epoch_key → bytes ≡ value → Got key a b (Ok (Some value))
-    → ((epoch : ℕ) → SpellsEpoch bytes epoch → ⊥) → ReadsEpoch a b (Err (BadRecord name))
-epoch_wrong key name bytes value a b same is e h none = (
-  is,
-  now_weaker no_map a.moments (λ s. Some value ≡ fin.get s.before.table key)
-      (λ s. HasNoEpoch s.before.table)
-      (λ s got. no_epoch_at s.before.table key bytes value same e got none) h.1,
-  h.0,
-)
-
 -- what the reading of a record rests on
 pub ruleset record_rules = (record_none, record_some, record_wrong, record_memory, stays_same)
-
--- what the reading of an epoch rests on
-pub ruleset epoch_rules = (epoch_zero, epoch_some, epoch_wrong, stays_same)

@@ -6,12 +6,13 @@ use Rattle.cache_pool.specs.declared.fault.CacheFault.TheVariants.{Store, BadRec
 use Rattle.obj_model.specs.Limits.{number_limit}
 use Rattle.obj_model.specs.States.{IsState}
 use Rattle.pool_keys.specs.Keys.{epoch_key, record_key}
-use Rattle.pool_keys.specs.Values.{IsEpochOf, IsRecOf, SpellsEpoch}
+use Rattle.pool_keys.specs.Values.{IsAtEpoch, IsRecOf}
 use Rattle.rec_codec.specs.Spelling.{SpellsTier}
 use Rattle.store_face.specs.Calls.{ReadFails, Stays}
 use Rattle.store_face.specs.Tables.{Table}
 use Rattle.store_face.specs.Views.{Holds, StoreView}
 use Rattle.tier_types.specs.declared.record.TierRec.{TierRec}
+use Rattle.pool_keys.specs.Reads.{HasNoEpoch}
 
 -- the map has this record of a name, or none
 abbrev pub HasRecord : List ℕ → Option TierRec → Table → Type 0
@@ -36,19 +37,9 @@ ReadsRecord name old new (Err (Store fault)) = ReadFails fault old new
 ReadsRecord name old new (Err (BadRecord other)) =
     (other ≡ name) × Holds old (IsUnreadable name) × Stays old new
 
--- the map is at this epoch
-abbrev pub IsAt : ℕ → Table → Type 0
-IsAt epoch t = IsEpochOf (fin.get t epoch_key) epoch
-
--- the value under the key of the epoch spells none
-pub record HasNoEpoch (t : Table) : Type 0 where
-  pub bytes : List ℕ
-  pub there : fin.get t epoch_key ≡ Some bytes
-  pub none : (epoch : ℕ) → SpellsEpoch bytes epoch → ⊥
-
 -- the epoch is read, or why it is not; a value that spells none is told with the name E
 abbrev pub ReadsEpoch : StoreView → StoreView → Result ℕ CacheFault → Type 0
-ReadsEpoch old new (Ok epoch) = (epoch ≤ number_limit) × Holds old (IsAt epoch) × Stays old new
+ReadsEpoch old new (Ok epoch) = (epoch ≤ number_limit) × Holds old (IsAtEpoch epoch) × Stays old new
 ReadsEpoch old new (Err (Store fault)) = ReadFails fault old new
 ReadsEpoch old new (Err (BadRecord name)) =
     (name ≡ epoch_key) × Holds old HasNoEpoch × Stays old new

@@ -1,14 +1,13 @@
 //! Reading the record of a name, and the epoch.
-ghost use Rattle.std.specs.Prelude.{◌≡◌, true, IfOk};
-ghost use Rattle.pool_keys.specs.Keys.{epoch_key};
+ghost use Rattle.std.specs.Prelude.{◌≡◌, true};
 ghost use Rattle.rec_codec.specs.Spelling.{SpellsTier};
 ghost use Rattle.store_face.specs.Views.{Sound};
 ghost use Rattle.cache_pool.specs.Reads.{ReadsEpoch, ReadsRecord};
 ghost use Rattle.cache_pool.specs.Steps.{Decodes};
 
 use crate::CacheFault;
-use obj_model::{Name, NoMemory};
-use pool_keys::{epoch_key, read_epoch, record_key};
+use obj_model::Name;
+use pool_keys::{epoch_name, find_epoch, record_key};
 use rec_codec::read_tier;
 use std::alloc::Global;
 use store_face::{Store, StoreFault};
@@ -53,34 +52,18 @@ pub fn read_record<P: Store>(
     }
 }
 
-// The name that stands for the epoch's own value.
-fn epoch_name(alloc: Global) -> Result<Name, NoMemory>
-    ensures { IfOk result (λ name. name ≡ epoch_key) }
-{
-    let mut bytes = Vec::with_capacity(alloc, 1)?;
-    bytes.push(b'E')?;
-    match Name::new(bytes) {
-        Ok(name) => Ok(name),
-        Err(_) => Err(NoMemory),
-    }
-}
-
 /// The epoch that a cache's map is at, 0 where it has none.
-#[tactic(auto, using(crate::proofs::Found::epoch_rules))]
 pub fn read_epoch_of<P: Store>(alloc: Global, store: &mut P) -> Result<u64, CacheFault>
     requires live { (P.state store.old).live ≡ true }
     requires sound { Sound (P.state store.old) }
     ensures read { ReadsEpoch (P.state store.old) (P.state store.new) result }
     ensures sound { Sound (P.state store.new) }
 {
-    let name = epoch_name(alloc)?;
-    let key = epoch_key(alloc)?;
-    match store.get(key.as_slice()) {
+    match find_epoch(alloc, store) {
         Err(fault) => Err(CacheFault::Store(fault)),
-        Ok(None) => Ok(0),
-        Ok(Some(value)) => match read_epoch(value.as_slice()) {
-            Some(epoch) => Ok(epoch),
-            None => Err(CacheFault::BadRecord { name }),
-        },
+        Ok(Some(epoch)) => Ok(epoch),
+        Ok(None) => Err(CacheFault::BadRecord {
+            name: epoch_name(alloc)?,
+        }),
     }
 }

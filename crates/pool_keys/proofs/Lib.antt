@@ -1,5 +1,6 @@
 pub mod Keys
 pub mod Epochs
+pub mod Found
 pub mod Entries
 pub mod Bases
 pub mod Leaving

@@ -2,6 +2,7 @@
 pub mod Keys
 pub mod Values
 pub mod Maps
+pub mod Reads
 -- what a stop may leave of a store
 pub mod Left
 -- what follows

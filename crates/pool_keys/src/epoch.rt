@@ -1,11 +1,16 @@
 //! The value under the key of a pool's epoch.
-ghost use Rattle.std.specs.Prelude.{◌≡◌, ◌≤◌, ℕ, IfOk, IfNone, IfSome};
+ghost use Rattle.std.specs.Prelude.{◌≡◌, ◌≤◌, ℕ, true, IfOk, IfNone, IfSome};
 ghost use Rattle.rec_codec.specs.Reading.{number_at, whole};
+ghost use Rattle.store_face.specs.Views.{Sound};
+ghost use Rattle.pool_keys.specs.Keys.{epoch_key};
+ghost use Rattle.pool_keys.specs.Reads.{FindsEpoch};
 ghost use Rattle.pool_keys.specs.Values.{SpellsEpoch};
 
+use crate::epoch_key;
 use byteorder::{BigEndian, ByteOrder};
-use obj_model::{Bytes, NUMBER_LIMIT, NoMemory};
+use obj_model::{Bytes, NUMBER_LIMIT, Name, NoMemory};
 use std::alloc::Global;
+use store_face::{Store, StoreFault};
 
 /// The spelling of an epoch.
 pub fn write_epoch(alloc: Global, epoch: u64) -> Result<Bytes, NoMemory>
@@ -43,5 +48,33 @@ pub fn read_epoch(bytes: &[u8]) -> Option<u64>
             }
             Some(epoch)
         }
+    }
+}
+
+/// The name by which a value under the epoch's key that spells none is told: the key itself.
+pub fn epoch_name(alloc: Global) -> Result<Name, NoMemory>
+    ensures { IfOk result (λ name. name ≡ epoch_key) }
+{
+    let mut bytes = Vec::with_capacity(alloc, 1)?;
+    bytes.push(b'E')?;
+    match Name::new(bytes) {
+        Ok(name) => Ok(name),
+        Err(_) => Err(NoMemory),
+    }
+}
+
+/// The epoch that a store's map is at: 0 where it has no value for it, and nothing where its value
+/// spells none.
+#[tactic(auto, using(crate::proofs::Found::epoch_found_rules))]
+pub fn find_epoch<P: Store>(alloc: Global, store: &mut P) -> Result<Option<u64>, StoreFault>
+    requires live { (P.state store.old).live ≡ true }
+    requires sound { Sound (P.state store.old) }
+    ensures found { FindsEpoch (P.state store.old) (P.state store.new) result }
+    ensures sound { Sound (P.state store.new) }
+{
+    let key = epoch_key(alloc)?;
+    match store.get(key.as_slice())? {
+        None => Ok(Some(0)),
+        Some(value) => Ok(read_epoch(value.as_slice())),
     }
 }

@@ -13,7 +13,7 @@ mod key;
 mod laws;
 mod left;
 
-pub use epoch::{read_epoch, write_epoch};
+pub use epoch::{epoch_name, find_epoch, read_epoch, write_epoch};
 pub use key::{PoolKey, epoch_key, read_key, record_key, state_key};
 pub use laws::{
     base_is_one, base_stands, cache_is_one, cache_stands, epoch_is_one, key_is_one, keys_rise,

@@ -8,7 +8,7 @@ use Rattle.store_face.specs.Calls.{Stays}
 use Rattle.store_face.specs.Tables.{Table, is_above}
 use Rattle.store_face.specs.Views.{Holds, StoreView}
 use Rattle.tier_types.specs.declared.record.TierRec.{TierRec}
-use Rattle.pool_survey.specs.Causes.{AreLevel, FitsAt, IsAt, IsBaseEntry, IsCacheEntry, IsFirstUnsound, IsFirstWrong}
+use Rattle.pool_survey.specs.Causes.{AreLevel, FitsAt, IsBaseEntry, IsCacheEntry, IsFirstUnsound, IsFirstWrong}
 use Rattle.pool_survey.specs.Places.{IsLast, IsNext}
 use Rattle.pool_survey.specs.Runs.{AreRead, BaseSoFar, FitSoFar, IsReadUpTo, IsRecordRead, IsRecordTaken, IsRightSoFar, ReadsNext, ReadsOn, ReadsUpTo, SoFar, TakesRecord, TogetherSoFar}
 use Rattle.pool_survey.specs.Steps.{Shows, SpellsRec}
@@ -24,6 +24,7 @@ use Rattle.pool_survey.proofs.Later.{also, always, both_twice, read_fails_later,
 use Rattle.store_face.proofs.Later.{holds_back, holds_on, stays_same, stays_twice}
 use Rattle.pool_survey.proofs.Orders.{Key, above_more}
 use Rattle.pool_survey.proofs.Together.{Beside, fit_more, still_behind}
+use Rattle.pool_keys.specs.Values.{IsAtEpoch}
 
 -- ---- two stores at once
 
@@ -62,15 +63,15 @@ surveys_later (Err (fault.BadRecord Base key)) a b c v w z h k =
     (both_twice a b c v w z h k.0, holds_back a b IsCacheMap h.cache_stays k.1, holds_back v w (IsFirstWrong IsBaseEntry key) h.base_stays k.2)
 surveys_later (Err (fault.Epochs held ahead)) a b c v w z h k = (
   both_twice a b c v w z h k.0,
-  holds_back a b (λ x. IsCacheMap x × IsAt held x) h.cache_stays k.1,
-  holds_back v w (λ y. IsBaseMap y × IsAt ahead y) h.base_stays k.2,
+  holds_back a b (λ x. IsCacheMap x × IsAtEpoch held x) h.cache_stays k.1,
+  holds_back v w (λ y. IsBaseMap y × IsAtEpoch ahead y) h.base_stays k.2,
   k.3,
 )
 surveys_later (Err (fault.Unsound name)) a b c v w z h k = (
   both_twice a b c v w z h k.0,
   holds_back a b IsCacheMap h.cache_stays k.1,
   holds_back v w IsBaseMap h.base_stays k.2,
-  both_back a b v w (λ x y. ((held ahead : ℕ) → IsAt held x → IsAt ahead y → AreLevel held ahead) × IsFirstUnsound name x y) h.cache_stays h.base_stays k.3,
+  both_back a b v w (λ x y. ((held ahead : ℕ) → IsAtEpoch held x → IsAtEpoch ahead y → AreLevel held ahead) × IsFirstUnsound name x y) h.cache_stays h.base_stays k.3,
 )
 surveys_later (Err fault.NoMemory) a b c v w z h k = both_twice a b c v w z h k
 

@@ -5,14 +5,14 @@ use Rattle.tier_outside.proofs.Moments.{now_weaker}
 use Rattle.obj_model.specs.declared.change.Pool.TheVariants.{Cache, Base}
 use Rattle.pool_keys.specs.Keys.{epoch_key, record_key}
 use Rattle.pool_keys.specs.Maps.{IsBaseMap, IsCacheMap}
-use Rattle.pool_keys.specs.Values.{IsEpochOf, IsRecOf}
+use Rattle.pool_keys.specs.Values.{IsAtEpoch, IsEpochOf, IsRecOf}
 use Rattle.pool_keys.proofs.Epochs.{epoch_one}
 use Rattle.store_face.specs.Calls.{Stays}
 use Rattle.store_face.specs.Limits.{IsPoolMap}
 use Rattle.store_face.specs.Tables.{Table}
 use Rattle.store_face.specs.Views.{Holds, IsOne, Sound, StoreView, no_map}
 use Rattle.tier_types.specs.declared.record.TierRec.{TierRec}
-use Rattle.pool_survey.specs.Causes.{AreLevel, FitsAt, IsAt, IsBaseEntry, IsCacheEntry, IsFirstUnsound, IsFirstWrong}
+use Rattle.pool_survey.specs.Causes.{AreLevel, FitsAt, IsBaseEntry, IsCacheEntry, IsFirstUnsound, IsFirstWrong}
 use Rattle.pool_survey.specs.Places.{IsLast}
 use Rattle.pool_survey.specs.Runs.{AreRead, BaseSoFar, Concludes, Finishes, FitSoFar, IsReadUpTo, IsRightSoFar, ReadsNext, ReadsOn, ReadsUpTo, SoFar, TogetherSoFar}
 use Rattle.pool_survey.specs.Surveys.{AreSumsOf, BothStay, IsSurvey, Sums, Surveys}
@@ -38,7 +38,7 @@ use Rattle.pool_survey.proofs.Summing.{sums_last}
 -- a cache's map that was read to its end
 pub record WholeCache (run : CacheRun) (x : Table) : Type 0 where
   pub is_map : IsCacheMap x
-  pub epoch : IsAt run.epoch x
+  pub epoch : IsAtEpoch run.epoch x
   pub sums : AreSumsOf run.totals x
   pub last : IsLast run.cursor.passed None x
 
@@ -82,7 +82,7 @@ sums_refused was is fault.NoMemory a b c stays h = stays_twice a b c stays h
 -- a base's map that was read to its end
 pub record WholeBase (run : BaseRun) (y : Table) : Type 0 where
   pub is_map : IsBaseMap y
-  pub epoch : IsAt run.epoch y
+  pub epoch : IsAtEpoch run.epoch y
 
 base_at : (run : BaseRun) (y : Table) → run.wrong ≡ None → BaseSoFar run y → IsLast run.cursor.passed None y → WholeBase run y
 base_at run y none h last =
@@ -118,7 +118,7 @@ sound_pair run base s x y none unsound level is cached based h =
     (surveyed (record { cache_epoch = run.cache.epoch; base_epoch = base.epoch; totals = run.cache.totals }) x y cached.is_map based.is_map cached.epoch based.epoch level
     (all_fit run x y cached.last none unsound h) cached.sums)
 
-levels : (c b : ℕ) (x y : Table) → IsAt c x → IsAt b y → AreLevel c b → (held ahead : ℕ) → IsAt held x → IsAt ahead y → AreLevel held ahead
+levels : (c b : ℕ) (x y : Table) → IsAtEpoch c x → IsAtEpoch b y → AreLevel c b → (held ahead : ℕ) → IsAtEpoch held x → IsAtEpoch ahead y → AreLevel held ahead
 levels c b x y at_c at_b level held ahead h k =
     let one = epoch_one (fin.get x epoch_key) c held at_c h in
     let two = epoch_one (fin.get y epoch_key) b ahead at_b k in
@@ -126,7 +126,7 @@ levels c b x y at_c at_b level held ahead h k =
 
 unsound_pair : (run : Run) (base : BaseRun) (name : Key) (x y : Table) → run.base.wrong ≡ None → run.unsound ≡ Some name → AreLevel run.cache.epoch base.epoch
     → WholeCache run.cache x → WholeBase base y → TogetherSoFar run x y
-    → ((held ahead : ℕ) → IsAt held x → IsAt ahead y → AreLevel held ahead) × IsFirstUnsound name x y
+    → ((held ahead : ℕ) → IsAtEpoch held x → IsAtEpoch ahead y → AreLevel held ahead) × IsFirstUnsound name x y
 unsound_pair run base name x y none unsound level cached based h = (
   levels run.cache.epoch base.epoch x y cached.epoch based.epoch level,
   subst (λ u. FitSoFar u run.cache.cursor.passed x y) unsound (h.fit none),
@@ -152,8 +152,8 @@ concluded run base (Err (fault.BadRecord Base key)) a v w stays kept told whole 
 )
 concluded run base (Err (fault.Epochs held ahead)) a v w stays kept told whole r = (
   record { cache_stays = stays_same a; base_stays = stays },
-  weaker a (WholeCache run.cache) (λ x. IsCacheMap x × IsAt held x) (λ x c. (c.is_map, subst (λ n. IsAt n x) (sym told.1) c.epoch)) whole,
-  weaker v (WholeBase base) (λ y. IsBaseMap y × IsAt ahead y) (λ y b. (b.is_map, subst (λ n. IsAt n y) (sym told.2) b.epoch)) (whole_base run.base base v told.0 kept),
+  weaker a (WholeCache run.cache) (λ x. IsCacheMap x × IsAtEpoch held x) (λ x c. (c.is_map, subst (λ n. IsAtEpoch n x) (sym told.1) c.epoch)) whole,
+  weaker v (WholeBase base) (λ y. IsBaseMap y × IsAtEpoch ahead y) (λ y b. (b.is_map, subst (λ n. IsAtEpoch n y) (sym told.2) b.epoch)) (whole_base run.base base v told.0 kept),
   told.3,
 )
 concluded run base (Err (fault.Unsound name)) a v w stays kept told whole r = (
@@ -161,7 +161,7 @@ concluded run base (Err (fault.Unsound name)) a v w stays kept told whole r = (
   weaker a (WholeCache run.cache) IsCacheMap (λ x c. c.is_map) whole,
   weaker v (WholeBase base) IsBaseMap (λ y b. b.is_map) (whole_base run.base base v told.0 kept),
   with_both a v (WholeCache run.cache) (WholeBase base) (TogetherSoFar run)
-      (λ x y. ((held ahead : ℕ) → IsAt held x → IsAt ahead y → AreLevel held ahead) × IsFirstUnsound name x y)
+      (λ x y. ((held ahead : ℕ) → IsAtEpoch held x → IsAtEpoch ahead y → AreLevel held ahead) × IsFirstUnsound name x y)
       (λ x y cached based one. unsound_pair run base name x y (kept.wrong told.0) told.2 told.1 cached based one) whole (whole_base run.base base v told.0 kept) r.in_both,
 )
 concluded run base (Err fault.NoMemory) a v w stays kept told whole r = absurd told

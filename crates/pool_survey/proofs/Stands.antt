@@ -10,14 +10,14 @@ use Rattle.obj_model.specs.declared.state.NameState.{NameState}
 use Rattle.obj_ops.specs.Stores.{Store, state_of}
 use Rattle.pool_keys.specs.Keys.{record_key, state_key}
 use Rattle.pool_keys.specs.Maps.{IsBaseMap, IsCacheMap, Recs, SpellsBase, SpellsCache}
-use Rattle.pool_keys.specs.Values.{IsRecOf, IsStateOf}
+use Rattle.pool_keys.specs.Values.{IsAtEpoch, IsRecOf, IsStateOf}
 use Rattle.pool_keys.proofs.Bases as bases
 use Rattle.pool_keys.proofs.Caches as caches
 use Rattle.store_face.specs.Tables.{Table}
 use Rattle.tier_protocol.specs.Laws.{StandsFor}
 use Rattle.tier_protocol.specs.Sound.{IsBehind, Shows, is_dirty}
 use Rattle.tier_types.specs.declared.record.TierRec.{TierRec}
-use Rattle.pool_survey.specs.Causes.{AreLevel, Fits, FitsAt, IsAt}
+use Rattle.pool_survey.specs.Causes.{AreLevel, Fits, FitsAt}
 use Rattle.pool_survey.specs.Surveys.{AreSumsOf, IsSurvey}
 use Rattle.pool_survey.specs.declared.told.Survey.{Survey}
 
@@ -99,7 +99,7 @@ stand_for x y recs base cache_epoch base_epoch cached based fits =
     record { behind = λ n. (each n).behind; clean = λ n. (each n).clean; shows = λ n. (each n).shows; few = λ n. (each n).few }
 
 -- two maps whose records all fit are a survey
-pub surveyed : (s : Survey) (x y : Table) → IsCacheMap x → IsBaseMap y → IsAt s.cache_epoch x → IsAt s.base_epoch y
+pub surveyed : (s : Survey) (x y : Table) → IsCacheMap x → IsBaseMap y → IsAtEpoch s.cache_epoch x → IsAtEpoch s.base_epoch y
     → AreLevel s.cache_epoch s.base_epoch → ((n : List ℕ) → FitsAt n x y) → AreSumsOf s.totals x → IsSurvey s x y
 surveyed s x y is_cache is_base cache_at base_at level fits sums =
     let c = caches.stands x is_cache in

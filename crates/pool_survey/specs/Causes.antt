@@ -4,9 +4,9 @@ use Rattle.std.specs.FinMap as fin
 use Rattle.std.specs.declared.cmp.Ordering.TheVariants.{Less}
 use Rattle.obj_model.specs.Names.{name_cmp}
 use Rattle.obj_model.specs.declared.state.NameState.{NameState}
-use Rattle.pool_keys.specs.Keys.{epoch_key, record_key, state_key}
+use Rattle.pool_keys.specs.Keys.{record_key, state_key}
 use Rattle.pool_keys.specs.Maps.{IsEpochEntry, IsRecordEntry, IsStateEntry}
-use Rattle.pool_keys.specs.Values.{IsEpochOf, IsRecOf, IsStateOf}
+use Rattle.pool_keys.specs.Values.{IsRecOf, IsStateOf}
 use Rattle.store_face.specs.Tables.{Table}
 use Rattle.tier_types.specs.declared.record.TierRec.{TierRec}
 use Rattle.tier_protocol.specs.Sound.{IsBehind}
@@ -31,10 +31,6 @@ pub record IsFirstWrong (IsRight : List ℕ → List ℕ → Type 0) (key : List
         → IsRight low other
 
 -- ---- epochs
-
--- a map is at this epoch
-abbrev pub IsAt : ℕ → Table → Type 0
-IsAt epoch t = IsEpochOf (fin.get t epoch_key) epoch
 
 -- the cache was started, and the base is ahead of it
 abbrev pub AreEpochs : (cache base : ℕ) → Type 0

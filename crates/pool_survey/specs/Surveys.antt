@@ -10,10 +10,11 @@ use Rattle.store_face.specs.Tables.{Table}
 use Rattle.store_face.specs.Views.{Holds, StoreView}
 use Rattle.tier_join.specs.Promises.{StandsAt}
 use Rattle.tier_rec.specs.Records.{totals_over}
-use Rattle.pool_survey.specs.Causes.{AreEpochs, AreLevel, IsAt, IsBaseEntry, IsCacheEntry, IsFirstUnsound, IsFirstWrong}
+use Rattle.pool_survey.specs.Causes.{AreEpochs, AreLevel, IsBaseEntry, IsCacheEntry, IsFirstUnsound, IsFirstWrong}
 use Rattle.pool_survey.specs.declared.fault.SurveyFault.{SurveyFault}
 use Rattle.pool_survey.specs.declared.fault.SurveyFault.TheVariants as fault
 use Rattle.pool_survey.specs.declared.told.Survey.{Survey}
+use Rattle.pool_keys.specs.Values.{IsAtEpoch}
 
 -- where both stores tell, their maps stand so to each other
 abbrev pub InBoth : (cache base : StoreView) → (Table → Table → Type 0) → Type 0
@@ -54,12 +55,12 @@ Surveys cache caches base bases (Err (fault.BadRecord Base key)) =
     BothStay cache caches base bases × Holds cache IsCacheMap
     × Holds base (IsFirstWrong IsBaseEntry key)
 Surveys cache caches base bases (Err (fault.Epochs held ahead)) =
-    BothStay cache caches base bases × Holds cache (λ x. IsCacheMap x × IsAt held x)
-    × Holds base (λ y. IsBaseMap y × IsAt ahead y)
+    BothStay cache caches base bases × Holds cache (λ x. IsCacheMap x × IsAtEpoch held x)
+    × Holds base (λ y. IsBaseMap y × IsAtEpoch ahead y)
     × AreEpochs held ahead
 Surveys cache caches base bases (Err (fault.Unsound name)) =
     BothStay cache caches base bases × Holds cache IsCacheMap × Holds base IsBaseMap
-    × InBoth cache base (λ x y. ((held ahead : ℕ) → IsAt held x → IsAt ahead y
+    × InBoth cache base (λ x y. ((held ahead : ℕ) → IsAtEpoch held x → IsAtEpoch ahead y
     → AreLevel held ahead)
     × IsFirstUnsound name x y)
 Surveys cache caches base bases (Err fault.NoMemory) = BothStay cache caches base bases

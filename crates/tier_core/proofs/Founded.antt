@@ -4,7 +4,7 @@ use Rattle.std.specs.FinMap as fin
 use Rattle.agent_state.specs.Modes.{idle_modes}
 use Rattle.agent_state.specs.declared.modes.Modes.{Modes}
 use Rattle.base_pool.specs.Opens.{Attaches as IsOpened}
-use Rattle.base_pool.specs.Views.{BaseView, IsAt, SoundBase}
+use Rattle.base_pool.specs.Views.{BaseView, SoundBase}
 use Rattle.obj_ops.specs.Stores.{Store}
 use Rattle.pool_keys.proofs.Epochs.{epoch_one}
 use Rattle.pool_keys.proofs.Leaving.{live_one}
@@ -34,6 +34,7 @@ use Rattle.tier_core.specs.Parts.{group_of, seen_base, stores_of}
 use Rattle.tier_core.specs.declared.parts.Agent.{Agent}
 use Rattle.tier_core.specs.declared.parts.Start.{Start}
 use Rattle.tier_core.specs.declared.attaching.Setup.{Setup}
+use Rattle.pool_keys.specs.Values.{IsAtEpoch}
 
 -- a live store that was read, which has one map
 pub record IsRead (s : StoreView) : Type 0 where
@@ -42,7 +43,7 @@ pub record IsRead (s : StoreView) : Type 0 where
 
 -- what was read of both is what they stand for
 module _ (cache base caches bases : StoreView) (told : Survey) (epoch : ℕ) (read_cache : IsRead caches) (read_base : IsRead bases)
-    (one : Stays cache caches) (other : Stays base bases) (both : InBoth cache base (IsSurvey told)) (at : Holds base (IsAt epoch)) where
+    (one : Stays cache caches) (other : Stays base bases) (both : InBoth cache base (IsSurvey told)) (at : Holds base (IsAtEpoch epoch)) where
   pub stand : (Tells caches × Tells bases) → (start : Store) × StandThere start caches bases told.cache_epoch epoch
   stand tells =
       let x = some_left caches tells.0 in
@@ -51,7 +52,7 @@ module _ (cache base caches bases : StoreView) (told : Survey) (epoch : ℕ) (re
       read_is_left caches (λ (t : Table). Holds base (IsSurvey told t)) read_cache.sound read_cache.live
       (holds_on cache caches (λ (t : Table). Holds base (IsSurvey told t)) one both) x.0 x.1 in
       let s : IsSurvey told x.0 y.0 = read_is_left bases (IsSurvey told x.0) read_base.sound read_base.live (holds_on base bases (IsSurvey told x.0) other held) y.0 y.1 in
-      let there : IsAt epoch y.0 = read_is_left bases (IsAt epoch) read_base.sound read_base.live (holds_on base bases (IsAt epoch) other at) y.0 y.1 in
+      let there : IsAtEpoch epoch y.0 = read_is_left bases (IsAtEpoch epoch) read_base.sound read_base.live (holds_on base bases (IsAtEpoch epoch) other at) y.0 y.1 in
       let same : told.base_epoch ≡ epoch = epoch_one (fin.get y.0 epoch_key) told.base_epoch epoch s.stands.based.is_epoch there in
       let stands : StandsAt told.cache_epoch epoch (record { cache = x.0; base = y.0 }) s.plain =
       subst (λ n. StandsAt told.cache_epoch n (record { cache = x.0; base = y.0 }) s.plain) same s.stands in (
@@ -94,8 +95,8 @@ module _ (cache base caches between : StoreView) (b : BaseView) (told : Survey) 
   base_stays : Stays base (seen_base b)
   base_stays = subst (Stays base) (sym (seen_opened b opened.opened)) (stays_twice base between b.store other opened.stays)
 
-  at : Holds base (IsAt b.epoch)
-  at = holds_back base between (IsAt b.epoch) other opened.epoch
+  at : Holds base (IsAtEpoch b.epoch)
+  at = holds_back base between (IsAtEpoch b.epoch) other opened.epoch
 
   pub may_found : MayBeFound caches b told setup
   may_found = record {

@@ -2,7 +2,7 @@
 use Rattle.std.specs.Prelude.{◌≡◌, None, Err}
 use Rattle.agent_state.specs.Modes.{idle_modes}
 use Rattle.base_pool.specs.Opens.{ReadsEpoch}
-use Rattle.base_pool.specs.Views.{BaseView, IsAt, SoundBase}
+use Rattle.base_pool.specs.Views.{BaseView, SoundBase}
 use Rattle.obj_ops.specs.Stores.{Store}
 use Rattle.pool_survey.specs.Surveys.{AreSumsOf, BothStay, InBoth, IsSurvey, Surveys}
 use Rattle.pool_survey.specs.declared.told.Survey.{Survey}
@@ -19,6 +19,7 @@ use Rattle.tier_view.specs.Views.{GroupView, joined}
 use Rattle.tier_view.specs.Whole.{AreSums, IsWhole}
 use Rattle.tier_view.specs.Worlds.{Began}
 use Rattle.agent_state.specs.declared.totals.Totals.{Totals}
+use Rattle.pool_keys.specs.Values.{IsAtEpoch}
 
 -- the agent of a group that is attached, with these sums over the cache's records
 abbrev pub found_agent : Totals → Setup → Agents
@@ -55,7 +56,7 @@ pub record Attaches (cache base : StoreView) (setup : Setup) (g : GroupView) : T
   pub stays : BothStay cache g.stores.cache base g.stores.base
   pub both : InBoth cache base (IsSurvey told)
   pub sums : Holds cache (AreSumsOf told.totals)
-  pub epoch : Holds base (IsAt g.standing.base_epoch)
+  pub epoch : Holds base (IsAtEpoch g.standing.base_epoch)
   pub is : g ≡ found_group g.stores.cache g.stores.base told.cache_epoch g.standing.base_epoch
       (found_agent told.totals setup)
   pub whole : IsWhole g

@@ -12,11 +12,11 @@ use Rattle.tier_protocol.specs.Tiers.{Name, Net}
 use Rattle.tier_protocol.proofs.Cells.{get_here, get_there}
 use Rattle.pool_keys.specs.Keys.{epoch_key, record_key, state_key}
 use Rattle.pool_keys.specs.Left.{IsLeftSinceBy}
-use Rattle.pool_keys.specs.Values.{IsEpochOf, SpellsEpoch}
+use Rattle.pool_keys.specs.Values.{IsAtEpoch, IsEpochOf, SpellsEpoch}
 use Rattle.tier_join.specs.Group.{Doubt, Memory, TwoMaps, View, AreLeft, EpochIsNext, IsRemembered, Spells, SpellsAny, changed_in, store_in, with_store}
 use Rattle.tier_join.specs.Promises.{AreLeftSince}
 use Rattle.tier_join.specs.Rising.{AreAtLeast, CommitsRise, IsAtLeast, LeftAreAtLeast, MemoryRises, NoEpochFalls, RestsRise, epoch_of, key_in}
-use Rattle.tier_join.specs.Steps.{Commits, IsAtEpoch, Opens, Outcome, Settles, memory_after, sets}
+use Rattle.tier_join.specs.Steps.{Commits, Opens, Outcome, Settles, memory_after, sets}
 use Rattle.tier_join.proofs.Commits.{Came, ComesFrom, came, same_since_in, since_in}
 use Rattle.tier_join.proofs.Keys.{record_off, set_is, state_off}
 use Rattle.tier_join.proofs.Left.{made_since, torn_since}

@@ -20,10 +20,10 @@ use Rattle.tier_protocol.proofs.Steps.{counting}
 use Rattle.tier_join.specs.Group.{Doubt, Memory, TwoMaps, View, ActIsNext, AreLeft, BeganAt, EpochIsNext, HasRecordAt, HasStateAt, IsRemembered, IsSoundMemory, ShowsIn, Spells, SpellsAny, map_in, store_in, store_now, tier_of, with_act, with_epoch, with_store}
 use Rattle.pool_keys.specs.Keys.{epoch_key, record_key, state_key}
 use Rattle.pool_keys.specs.Left.{AreTold, IsLeftSinceBy}
-use Rattle.pool_keys.specs.Values.{IsRecOf, IsStateOf}
+use Rattle.pool_keys.specs.Values.{IsAtEpoch, IsRecOf, IsStateOf}
 use Rattle.tier_join.specs.Promises.{AreLeftSince, OneMore, Promises}
 use Rattle.tier_join.specs.Laws.{OpeningPromises, ReopeningsAreAmong}
-use Rattle.tier_join.specs.Steps.{Has, IsAtEpoch, Opens, Settles, after, pool_of, settled, with_doubt}
+use Rattle.tier_join.specs.Steps.{Has, Opens, Settles, after, pool_of, settled, with_doubt}
 use Rattle.tier_join.proofs.Commits.{told_in}
 use Rattle.pool_keys.proofs.Bases.{state_one}
 use Rattle.pool_keys.proofs.Caches.{record_one}

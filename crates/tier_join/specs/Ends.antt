@@ -20,7 +20,8 @@ use Rattle.tier_protocol.specs.Tiers.{Name, Ask, BaseActed, BaseMsg, BaseReply, 
 use Rattle.tier_join.specs.Group.{TwoMaps, View, AreLeft, BeganAt, BothTell, IsGroup, store_now}
 use Rattle.pool_keys.specs.Left.{IsLeft}
 use Rattle.tier_join.specs.Promises.{StandsAt, StandsFor}
-use Rattle.tier_join.specs.Steps.{Has, HasRec, HasState, IsAtEpoch, seen, with_doubt}
+use Rattle.tier_join.specs.Steps.{Has, HasRec, HasState, seen, with_doubt}
+use Rattle.pool_keys.specs.Values.{IsAtEpoch}
 
 -- ---- the beginning
 

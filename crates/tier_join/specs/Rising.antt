@@ -13,10 +13,10 @@ use Rattle.tier_protocol.specs.Moves.{acted_here, begun, cleaned, drained, evict
 use Rattle.tier_protocol.specs.Rising.{EpochsRise}
 use Rattle.tier_protocol.specs.Tiers.{Name, Ask, BaseMsg, BaseReply, Flight, Flights, IsIn, Net, TierRec}
 use Rattle.pool_keys.specs.Keys.{epoch_key, record_key, state_key}
-use Rattle.pool_keys.specs.Values.{SpellsEpoch}
+use Rattle.pool_keys.specs.Values.{IsAtEpoch, SpellsEpoch}
 use Rattle.tier_join.specs.Group.{Doubt, Memory, TwoMaps, View, AreLeft, BeganAt, BothTell, IsRemembered}
 use Rattle.tier_join.specs.Promises.{AreLeftSince, Promises}
-use Rattle.tier_join.specs.Steps.{Commits, IsAtEpoch, Opens, Outcome, Rests, after, left_with, no_space, sets, unless_disk}
+use Rattle.tier_join.specs.Steps.{Commits, Opens, Outcome, Rests, after, left_with, no_space, sets, unless_disk}
 
 -- a map is at no lower epoch than this
 abbrev pub IsAtLeast : ℕ → Table → Type 0

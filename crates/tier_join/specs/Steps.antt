@@ -17,9 +17,9 @@ use Rattle.tier_protocol.specs.Moves.{counted_raised, epoch_found, filled, set_a
 use Rattle.tier_protocol.specs.Sound.{IsSound}
 use Rattle.tier_protocol.specs.Tiers.{Name, BaseMsg, BaseReply, Flights, Phase, Recs, Tier, TierRec}
 use Rattle.tier_join.specs.Group.{Doubt, Memory, TwoMaps, View, ActIsNext, AreLeft, EpochIsNext, IsSoundMemory, ShowsIn, Spells, SpellsDoubt, changed_in, store_in, tier_of, with_act, with_epoch, with_store}
-use Rattle.pool_keys.specs.Keys.{epoch_key, record_key, state_key}
+use Rattle.pool_keys.specs.Keys.{record_key, state_key}
 use Rattle.pool_keys.specs.Left.{IsLeft}
-use Rattle.pool_keys.specs.Values.{IsEpochOf, IsRecOf, IsStateOf}
+use Rattle.pool_keys.specs.Values.{IsAtEpoch, IsRecOf, IsStateOf}
 use Rattle.tier_join.specs.Promises.{OneMore, with_req}
 
 -- ---- what was read
@@ -152,10 +152,6 @@ FoundOrNot s Is there gone = (Has s Is × there) ⊎ (Has s (λ t. Is t → ⊥)
 abbrev pub ReadAgain : Pool → Name → View → Type 0
 ReadAgain Cache name v = (rec : Option TierRec) × HasRec v name rec
 ReadAgain Base name v = (s : NameState) × HasState v name s
-
--- the map has this epoch
-abbrev pub IsAtEpoch : ℕ → Table → Type 0
-IsAtEpoch e t = IsEpochOf (fin.get t epoch_key) e
 
 -- a pool's store is another, no commit is in doubt, and memory is this
 abbrev pub settled : Pool → (old new : View) → Memory → View

@@ -11,7 +11,6 @@ use Rattle.store_face.specs.Views.{CrashMaps, StoreView}
 use Rattle.tier_chron.proofs.Calls.{begins_anywhere}
 use Rattle.tier_join.specs.Group.{AreLeft, BeganAt, IsRemembered, TwoMaps}
 use Rattle.tier_join.specs.Promises.{StandsAt}
-use Rattle.tier_join.specs.Steps.{IsAtEpoch}
 use Rattle.tier_join.proofs.Left.{read_is_left}
 use Rattle.tier_join.proofs.Telling.{groups_begin}
 use Rattle.tier_owners.proofs.Closing.{found_owned}
@@ -22,6 +21,7 @@ use Rattle.tier_view.specs.Founding.{EpochsAreAsRead, FoundingKeeps, StandThere,
 use Rattle.tier_view.specs.Views.{GroupView, joined}
 use Rattle.tier_view.specs.Whole.{AreSums, IsWhole}
 use Rattle.tier_view.specs.Worlds.{Began, HasOwners}
+use Rattle.pool_keys.specs.Values.{IsAtEpoch}
 
 module _ (cache base : StoreView) (e f : ℕ) (agent : Agents) where
   abbrev G : GroupView

@@ -12,7 +12,7 @@ use Rattle.store_face.specs.Calls.{Among}
 use Rattle.store_face.specs.Views.{StoreView}
 use Rattle.tier_join.specs.Group.{EpochIsNext, Memory, TwoMaps, View, AreLeft, store_in, tier_of, with_epoch}
 use Rattle.tier_join.specs.Promises.{Promises}
-use Rattle.tier_join.specs.Steps.{Has, IsAtEpoch, ReadAgain, Rests, with_doubt}
+use Rattle.tier_join.specs.Steps.{Has, ReadAgain, Rests, with_doubt}
 use Rattle.tier_join.specs.declared.doubt.Doubt.{Doubt}
 use Rattle.tier_join.proofs.Reopening.{opening_promises}
 use Rattle.tier_join.proofs.Rests.{first_rests}
@@ -37,6 +37,7 @@ use Rattle.tier_view.proofs.Stopping.{stopping_cache_keeps}
 use Rattle.tier_view.proofs.StartingRests.{stopping_base_keeps}
 use Rattle.tier_view.proofs.StartingStores as to
 use Rattle.tier_view.proofs.StartingStores.{StoreStep, base_flag, cache_flag, changed, put_in, stores_keep}
+use Rattle.pool_keys.specs.Values.{IsAtEpoch}
 
 module _ (pool : Pool) (v : GroupView) (s : StoreView) (h : IsWhole v) (among : Among (store_in pool (joined v)) s) (later : (store_in pool (joined v)).faults ≤ s.faults) where
   abbrev Mem : Memory

@@ -7,14 +7,14 @@ use Rattle.obj_model.specs.declared.change.Pool.TheVariants.{Cache}
 use Rattle.obj_ops.specs.Stores.{Store}
 use Rattle.pool_keys.specs.Keys.{epoch_key, record_key}
 use Rattle.pool_keys.specs.Maps.{SpellsCache}
-use Rattle.pool_keys.specs.Values.{IsRecOf}
+use Rattle.pool_keys.specs.Values.{IsAtEpoch, IsRecOf}
 use Rattle.store_face.specs.Calls.{Committed, Made, MayBeMade, Stays as StoreStays}
 use Rattle.store_face.specs.Tables.{Table}
 use Rattle.store_face.specs.Views.{StoreView}
 use Rattle.store_face.specs.declared.fault.StoreFault.TheVariants.{Disk, BadImage, NoSpace, Worn, NoMemory}
 use Rattle.tier_join.specs.Group.{Memory, TwoMaps, View, AreLeft, changed_in, tier_of, with_epoch}
 use Rattle.tier_join.specs.Promises.{Promises, as_it_is}
-use Rattle.tier_join.specs.Steps.{IsAtEpoch, Outcome, after, behind as left_behind, sets, unless_disk}
+use Rattle.tier_join.specs.Steps.{Outcome, after, behind as left_behind, sets, unless_disk}
 use Rattle.tier_join.specs.declared.doubt.Doubt.{Doubt}
 use Rattle.tier_join.proofs.CacheSteps.{raising_promises}
 use Rattle.tier_join.proofs.Keys.{cache_at}

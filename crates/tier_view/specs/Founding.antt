@@ -7,7 +7,7 @@ use Rattle.store_face.specs.Views.{Holds, Sound, StoreView}
 use Rattle.tier_chron.specs.Logs.{empty_log}
 use Rattle.tier_join.specs.Group.{BothTell, TwoMaps}
 use Rattle.tier_join.specs.Promises.{StandsAt, StandsFor}
-use Rattle.tier_join.specs.Steps.{Has, IsAtEpoch}
+use Rattle.tier_join.specs.Steps.{Has}
 use Rattle.tier_protocol.specs.Tiers.{Phase}
 use Rattle.tier_view.specs.Agents.{Agents}
 use Rattle.tier_view.specs.Calls.{Calls}
@@ -17,6 +17,7 @@ use Rattle.tier_view.specs.Traffic.{Traffic}
 use Rattle.tier_view.specs.Views.{GroupView, joined}
 use Rattle.tier_view.specs.Whole.{AreSums, IsWhole}
 use Rattle.tier_view.specs.Worlds.{Began}
+use Rattle.pool_keys.specs.Values.{IsAtEpoch}
 
 -- ---- the parts as they are found
 

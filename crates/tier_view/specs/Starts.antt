@@ -8,14 +8,14 @@ use Rattle.obj_model.specs.declared.change.Pool.TheVariants.{Cache, Base}
 use Rattle.obj_ops.specs.Stores.{Store}
 use Rattle.pool_keys.specs.Keys.{epoch_key}
 use Rattle.pool_keys.specs.Laws.{HasOneMap}
-use Rattle.pool_keys.specs.Values.{SpellsEpoch}
+use Rattle.pool_keys.specs.Values.{IsAtEpoch, SpellsEpoch}
 use Rattle.store_face.specs.Calls.{Among, Committed}
 use Rattle.store_face.specs.Views.{Sound, StoreView}
 use Rattle.store_face.specs.declared.fault.StoreFault.TheVariants.{Disk, BadImage, NoSpace, Worn, NoMemory}
 use Rattle.tier_join.specs.Ends.{IsSettled}
 use Rattle.tier_join.specs.Group.{BothTell, ShowsIn, store_in}
 use Rattle.tier_join.specs.Promises.{as_it_is}
-use Rattle.tier_join.specs.Steps.{FoundOrNot, Has, IsAtEpoch, Outcome, ReadAgain, sets, with_doubt}
+use Rattle.tier_join.specs.Steps.{FoundOrNot, Has, Outcome, ReadAgain, sets, with_doubt}
 use Rattle.tier_protocol.specs.Tiers.{BaseMsg, BaseReply, Phase, IsIn}
 use Rattle.tier_view.specs.Changes.{unawaited, unnoted, without_message, without_reply}
 use Rattle.tier_view.specs.Laws.{Keeps}
