@@ -1,0 +1,2 @@
+-- runs of steps, and their laws
+pub mod Runs
