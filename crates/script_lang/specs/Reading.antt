@@ -116,7 +116,8 @@ is_numeral word = nat_le 1 (length word) && nat_le (length word) 19 && list_all 
 -- the number of a word, if it is one of at most 2^62
 unfoldable pub number_of : List ℕ → Option ℕ
 number_of word =
-    where_true (is_numeral word && nat_le (digits_value 10 word) number_limit) (digits_value 10 word)
+    where_true (is_numeral word && nat_le (digits_value 10 word) number_limit)
+    (digits_value 10 word)
 
 -- a hexadecimal digit, in lower case
 abbrev pub is_lower_digit : ℕ → Bool

@@ -62,8 +62,8 @@ pub record LogGoesOn (old new : Log) : Type 0 where
 abbrev pub AnyMore : {X : Type 0} → List X → Type 0
 AnyMore xs = Unit {0}
 
--- The entries of both tables stay; work that stood may have gone, at a number of answers between the
--- run's beginning and its end.
+-- The entries of both tables stay; work that stood may have gone, at a number of answers between
+-- the run's beginning and its end.
 pub record GrowsOver (old new : GroupView) : Type 0 where
   pub tell : BothTell (joined old) → BothTell (joined new)
   pub told : BothTell (joined new) → BothTell (joined old)
@@ -85,8 +85,8 @@ pub record GrowsOver (old new : GroupView) : Type 0 where
 pub record StandsMeanwhile (start : Store) (old new : GroupView) : Type 0 where
   pub other : Store → Store
   pub makes : MayMake old new other
-  pub stands : StopsLeave (behind start old.log.acts) (other (behind start old.log.acts)) (joined old)
-      (joined new)
+  pub stands : StopsLeave (behind start old.log.acts) (other (behind start old.log.acts))
+      (joined old) (joined new)
 
 -- so it is in each step of a run
 abbrev pub StandThroughout : Store → GroupView → List GroupView → Type 0

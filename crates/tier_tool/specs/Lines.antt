@@ -83,8 +83,8 @@ AnswersLine t room p n (BadRecord number name) q =
 
 -- What is said of the first lines, one after another; the lines that are left; and what stands
 -- behind those that were said.
-abbrev pub AnswersLines : Table → (room : ℕ) → Standing → List Numbered → List LineAnswer → List Numbered
-    → Standing → Type 0
+abbrev pub AnswersLines : Table → (room : ℕ) → Standing → List Numbered → List LineAnswer
+    → List Numbered → Standing → Type 0
 AnswersLines t room p lines [] left q = (left ≡ lines) × (q ≡ p)
 AnswersLines t room p [] (s ∷ ss) left q = ⊥
 AnswersLines t room p (n ∷ ns) (s ∷ ss) left q =
@@ -158,8 +158,8 @@ pub record EndsLacking (said : List LineAnswer) (left : List Numbered) (n : Numb
   pub all : put ≡ texts_of said
 
 -- how a run of lines ended, by what was put and the status
-abbrev pub EndsAs : (disk_rose sink_rose : Type 0) → List LineAnswer → List Numbered → Ending → List ℕ
-    → ℕ → Type 0
+abbrev pub EndsAs : (disk_rose sink_rose : Type 0) → List LineAnswer → List Numbered → Ending
+    → List ℕ → ℕ → Type 0
 EndsAs disk_rose sink_rose said left Whole put status = EndsWhole said left put status
 EndsAs disk_rose sink_rose said left Unheard put status = EndsUnheard sink_rose said put status
 EndsAs disk_rose sink_rose said left Unwritten put status = EndsUnwritten said put status

@@ -80,8 +80,8 @@ IsKept now ending moments =
 -- or, where the disk failed in a line, for that store with its act too, and with the record of it
 -- used. So an act that was told survives any crash.
 pub record SaidFrom (t : Table) (room : ℕ) (store : Store) (used : ℕ) (lines : List Numbered)
-    (said : List LineAnswer) (left : List Numbered) (ending : Ending) (base : Option (List DiskMoment))
-    : Type 0 where
+    (said : List LineAnswer) (left : List Numbered) (ending : Ending)
+    (base : Option (List DiskMoment)) : Type 0 where
   pub now : Standing
   pub says : AnswersLines t room (standing store used) lines said left now
   pub plainly : given said ≡ plain (lines_given lines said) store

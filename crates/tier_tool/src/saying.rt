@@ -116,7 +116,8 @@ fn write_no_space(
     limit: u64,
     text: &mut Text,
 ) -> Result<(), NoMemory>
-    ensures { OnOk result (text.new ≡ text.old ++ line_answer_text (NoRoom number used need limit)) }
+    ensures { OnOk result
+        (text.new ≡ text.old ++ line_answer_text (NoRoom number used need limit)) }
 {
     let refused = Answer::NoSpace {
         pool: Pool::Base,

@@ -32,11 +32,12 @@ pub record SaysLine (t : Table) (room : ℕ) (p : Standing) (n : Numbered) (s : 
 
 -- This is said of a line, whichever plain store with so many acts the map stands for, in the
 -- store's room. The same names are unreadable behind it.
-pub record IsSaid (n : Numbered) (s : LineAnswer) (before acts : ℕ) (old new : LogView) : Type 0 where
-  pub live : new.live ≡ true
-  pub unreadable : Holds (store_of old) (λ t. Holds (store_of new) (SameUnreadable t))
-  pub from : Holds (store_of old) (λ t. (p : Standing) → p.plain.acts ≡ before
-      → p.used ≡ old.used → StandsFor t p.plain.store → SaysLine t old.room p n s acts new)
+pub record IsSaid (n : Numbered) (s : LineAnswer) (before acts : ℕ) (old new : LogView) : Type 0
+  where
+    pub live : new.live ≡ true
+    pub unreadable : Holds (store_of old) (λ t. Holds (store_of new) (SameUnreadable t))
+    pub from : Holds (store_of old) (λ t. (p : Standing) → p.plain.acts ≡ before
+        → p.used ≡ old.used → StandsFor t p.plain.store → SaysLine t old.room p n s acts new)
 
 -- nothing is said of a line: a crash leaves what was there before it, or that with its act
 abbrev pub LeavesInDoubt : Numbered → StoreView → StoreView → Type 0
@@ -156,11 +157,12 @@ pub record ToldSoFar (lines left : List Numbered) (acts : ℕ) (old now : LogVie
 
 -- lines were said in so much room from a map that stands for a store, with so much of the room used
 pub record SaysFrom (t : Table) (room : ℕ) (from : Standing) (lines : List Numbered)
-    (said : List LineAnswer) (left : List Numbered) (ending : Ending) (new : StoreView) : Type 0 where
-  pub now : Standing
-  pub says : AnswersLines t room from lines said left now
-  pub before : Now new (λ s. IsLeft now ending s.before)
-  pub after_ : Now new (λ s. IsLeft now ending s.after)
+    (said : List LineAnswer) (left : List Numbered) (ending : Ending) (new : StoreView) : Type 0
+  where
+    pub now : Standing
+    pub says : AnswersLines t room from lines said left now
+    pub before : Now new (λ s. IsLeft now ending s.before)
+    pub after_ : Now new (λ s. IsLeft now ending s.after)
 
 -- Lines were carried out on a pool's store, and what is said of each was put before the next: what
 -- was put, and the status.
