@@ -1,0 +1,10 @@
+pub mod QuietSteps
+pub mod WorkTables
+pub mod Sendings
+pub mod Beginnings
+pub mod WaitSteps
+pub mod AgentSteps
+pub mod ReadSteps
+pub mod WriteSteps
+pub mod PromotionSteps
+pub mod FlushSteps

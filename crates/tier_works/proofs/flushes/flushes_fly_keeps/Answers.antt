@@ -1,0 +1,5 @@
+use Rattle.tier_works.proofs.FlushSteps.{flushes_fly_keeps}
+use Rattle.tier_works.proofs.flushes.flushes_fly_keeps.Goals as goal
+
+pub returns : goal.returns
+returns c = flushes_fly_keeps
