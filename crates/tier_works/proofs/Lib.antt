@@ -8,3 +8,4 @@ pub mod ReadSteps
 pub mod WriteSteps
 pub mod PromotionSteps
 pub mod FlushSteps
+pub mod JoinSteps

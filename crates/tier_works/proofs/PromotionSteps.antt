@@ -91,10 +91,11 @@ module _ (v : GroupView) (call : ℕ) (ask : Ask) (h : IsWhole v) (b : BeginsPro
         (refl, (call, [], ask, there, wants_head))
         (λ start z i s. (b.free, rec_is start (joined v) z K None b.bare i s, refl, refl, refl))
         (λ start z i s. (refl, (call, [], ask, there, wants_head)))
-        (work_comes v.calls.entries v.calls.entries v.traffic.flights v.traffic.begun v.traffic.begun
-        v.standing.cache_epoch (length v.log.answers) K F (λ c g. g) (λ c g. g) (λ x on other. on)
-        (λ j o of. absurd (none_of_kind j o (subst (λ x. IsOfKind x j o) b.free of))) v.calls.flown E
-        (is_known v.calls.entries call going) refl refl refl refl
+        (work_comes v.calls.entries v.calls.entries v.traffic.flights v.traffic.begun
+        v.traffic.begun v.standing.cache_epoch (length v.log.answers) K F (λ c g. g) (λ c g. g)
+        (λ x on other. on)
+        (λ j o of. absurd (none_of_kind j o (subst (λ x. IsOfKind x j o) b.free of)))
+        v.calls.flown E (is_known v.calls.entries call going) refl refl refl refl
         (going, has_come v.calls.flown E (λ f. f.call ≡ call) refl refl) h.flights)
         (begun_later v.traffic.next_message v.traffic.begun h.traffic.begun)
 

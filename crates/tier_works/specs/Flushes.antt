@@ -36,7 +36,7 @@ SendingInstallsKeeps =
 
 -- ---- a flush begins
 
--- the flush of a record as it is now, under the next number, which these wait for
+-- the flush of a record as it is now, under the next number; this call waits for it, or nobody
 abbrev pub flush_now : Option ℕ → TierRec → (blocking drain : Bool) → GroupView → Flight
 flush_now waiter r blocking drain v =
     Flight.Flush waiter v.standing.next_opid r.state.seq blocking drain

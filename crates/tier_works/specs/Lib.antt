@@ -5,3 +5,4 @@ pub mod ProxyReads
 pub mod Writes
 pub mod Promotions
 pub mod Flushes
+pub mod Joins

@@ -7,6 +7,7 @@
 #![tactic(auto)]
 
 mod flushes;
+mod joins;
 mod promotions;
 mod reads;
 mod settings;
@@ -16,6 +17,9 @@ mod writes;
 pub use flushes::{
     flushes_fly_alone_keeps, flushes_fly_keeps, sending_installs_keeps, taking_flushes_keeps,
     taking_old_flushes_keeps,
+};
+pub use joins::{
+    entry_begins_step, new_calls_are_free, quiet_begins_step, quiet_ends_step, quiet_follows_quiet,
 };
 pub use promotions::{
     asking_chunks_keeps, feeding_asks_keeps, feeding_keeps, promotions_fly_keeps,
