@@ -1,13 +1,16 @@
 -- What attaching a base, opening it anew, and reading a state do.
 use Rattle.std.specs.Prelude.{◌≡◌, ◌⊎◌, ◌≤◌, ℕ, true, false, List, [], ◌∷◌, Option, Some, None, Result, Ok, Err}
+use Rattle.std.specs.FinMap as fin
 use Rattle.obj_model.specs.Limits.{number_limit}
 use Rattle.obj_model.specs.States.{IsState}
 use Rattle.obj_model.specs.declared.state.NameState.{NameState}
 use Rattle.store_face.specs.Calls.{Opens, ReadFails, Reopened, Stays}
+use Rattle.store_face.specs.Tables.{Table}
 use Rattle.store_face.specs.Views.{Holds, StoreView}
 use Rattle.store_face.specs.declared.fault.StoreFault.{StoreFault}
-use Rattle.pool_keys.specs.Keys.{epoch_key}
+use Rattle.pool_keys.specs.Keys.{epoch_key, state_key}
 use Rattle.pool_keys.specs.Values.{IsAtEpoch}
+use Rattle.rec_codec.specs.Spelling.{SpellsState}
 use Rattle.base_pool.specs.Serves.{FailsBase, IsUnreadable, StaysBase}
 use Rattle.base_pool.specs.Views.{BaseView, Has}
 use Rattle.base_pool.specs.declared.fault.BaseFault.{BaseFault}
@@ -58,4 +61,23 @@ ReadsState name old new (Ok s) = IsState s × Holds old.store (Has name s) × St
 ReadsState name old new (Err (Store fault)) =
     ReadFails fault old.store new.store × (new.epoch ≡ old.epoch) × (new.opened ≡ old.opened)
 ReadsState name old new (Err (BadRecord other)) =
+    (other ≡ name) × Holds old.store (IsUnreadable name) × StaysBase old new
+
+-- a value spells a state of this `seq`, and no value none
+abbrev pub IsSeqOf : Option (List ℕ) → Option ℕ → Type 0
+IsSeqOf None None = Unit {0}
+IsSeqOf None (Some seq) = ⊥
+IsSeqOf (Some bytes) None = ⊥
+IsSeqOf (Some bytes) (Some seq) = (s : NameState) × SpellsState bytes s × (s.seq ≡ seq)
+
+-- the map has a value for the name that spells a state of this `seq`, or none
+abbrev pub HasSeq : List ℕ → Option ℕ → Table → Type 0
+HasSeq name seq t = IsSeqOf (fin.get t (state_key name)) seq
+
+-- the `seq` of a name's state is read, or why it is not
+abbrev pub ReadsSeq : List ℕ → BaseView → BaseView → Result (Option ℕ) BaseFault → Type 0
+ReadsSeq name old new (Ok seq) = Holds old.store (HasSeq name seq) × StaysBase old new
+ReadsSeq name old new (Err (Store fault)) =
+    ReadFails fault old.store new.store × (new.epoch ≡ old.epoch) × (new.opened ≡ old.opened)
+ReadsSeq name old new (Err (BadRecord other)) =
     (other ≡ name) × Holds old.store (IsUnreadable name) × StaysBase old new

@@ -1,5 +1,6 @@
 -- What the private steps of a base promise.
-use Rattle.std.specs.Prelude.{◌≡◌, ℕ, Bool, nat_lt, List, Option, Some, None, Result, Ok, Err, if◌then◌else◌}
+use Rattle.std.specs.Prelude.{◌≡◌, ℕ, Bool, nat_lt, List, Option, Some, None, IfSome, Result, Ok, Err, if◌then◌else◌}
+use Rattle.std.specs.FinMap as fin
 use Rattle.obj_model.specs.States.{IsState}
 use Rattle.obj_model.specs.declared.state.NameState.{NameState}
 use Rattle.store_face.specs.Calls.{ReadFails, Stays}
@@ -8,6 +9,8 @@ use Rattle.store_face.specs.declared.fault.StoreFault.{StoreFault}
 use Rattle.store_face.specs.declared.fault.StoreFault.TheVariants as store
 use Rattle.tier_types.specs.declared.message.BaseMsg.{BaseMsg}
 use Rattle.tier_types.specs.declared.message.BaseReply.{BaseReply}
+use Rattle.pool_keys.specs.Keys.{state_key}
+use Rattle.rec_codec.specs.Spelling.{SpellsState}
 use Rattle.base_pool.specs.Serves.{IsSpelled, IsUnreadable}
 use Rattle.base_pool.specs.Views.{BaseView, Has}
 use Rattle.base_pool.specs.declared.fault.BaseFault.{BaseFault}
@@ -22,6 +25,23 @@ base_of store epoch opened = record { store = store; epoch = epoch; opened = ope
 abbrev pub IsKept : StoreView → Option Kept → Type 0
 IsKept v None = Unit {0}
 IsKept v (Some k) = IsState k.state × Holds v (Has k.name k.state)
+
+-- a value spells this state, and no value none
+abbrev pub IsValueOf : Option (List ℕ) → Option NameState → Type 0
+IsValueOf None None = Unit {0}
+IsValueOf None (Some s) = ⊥
+IsValueOf (Some bytes) None = ⊥
+IsValueOf (Some bytes) (Some s) = SpellsState bytes s
+
+-- the value under a name's key was read, or why it was not
+abbrev pub FindsValue : List ℕ → StoreView → StoreView → Result (Option NameState) BaseFault
+    → Type 0
+FindsValue name old new (Ok value) =
+    IfSome value IsState × Holds old (λ t. IsValueOf (fin.get t (state_key name)) value)
+    × Stays old new
+FindsValue name old new (Err (Store fault)) = ReadFails fault old new
+FindsValue name old new (Err (BadRecord other)) =
+    (other ≡ name) × Holds old (IsUnreadable name) × Stays old new
 
 -- the state of a name was read, or why it was not
 abbrev pub Finds : List ℕ → StoreView → StoreView → Result NameState BaseFault → Type 0

@@ -1,12 +1,12 @@
 //! The base itself: its store, its epoch, and the state that was read last.
-ghost use Rattle.std.specs.Prelude.{◌≡◌, ◌↔◌, true, IfOk, IfErr, Err};
+ghost use Rattle.std.specs.Prelude.{◌≡◌, ◌↔◌, true, false, IfOk, IfErr, Err};
 ghost use Rattle.store_face.specs.Views.{Sound};
-ghost use Rattle.base_pool.specs.Opens.{Attaches, ReadsEpoch, ReadsState, ReopensBase};
+ghost use Rattle.base_pool.specs.Opens.{Attaches, ReadsEpoch, ReadsSeq, ReadsState, ReopensBase};
 ghost use Rattle.base_pool.specs.Serves.{IsMsg, Serves};
 ghost use Rattle.base_pool.specs.Views.{IsLive, SoundBase};
 
 use crate::BaseFault;
-use crate::kept::{Kept, recall};
+use crate::kept::{Kept, find_value, recall};
 use crate::kinds::answer;
 use crate::opening::read_epoch_of;
 use obj_model::{Name, NameState};
@@ -146,6 +146,30 @@ impl<P: Store> Base<P> {
                 }
             },
         }
+    }
+
+    /// The `seq` of a name's state; none where the base has no value for the name. No state is
+    /// copied, and none is kept.
+    #[tactic(auto, using(crate::proofs::Found::seq_rules))]
+    pub fn seq_of(&mut self, alloc: Global, name: &Name) -> Result<Option<u64>, BaseFault>
+        requires live { IsLive self.old }
+        ensures read { ReadsSeq name.now self.old self.new result }
+        ensures sound { SoundBase self.new }
+    {
+        let Base { store, .. } = self;
+        match find_value(alloc, store, name) {
+            Err(fault) => Err(fault),
+            Ok(Some(state)) => Ok(Some(state.seq)),
+            Ok(None) => Ok(None),
+        }
+    }
+
+    /// The base is not live until it is opened anew.
+    pub fn close(&mut self)
+        ensures closed { self.new ≡ record self.old { opened = false } }
+        ensures sound { SoundBase self.new }
+    {
+        self.opened = false;
     }
 
     /// The store.

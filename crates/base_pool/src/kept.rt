@@ -3,7 +3,7 @@
 ghost use Rattle.std.specs.Prelude.{◌≡◌, true, Ok, Some, IfOk};
 ghost use Rattle.rec_codec.specs.Spelling.{SpellsState};
 ghost use Rattle.store_face.specs.Views.{Sound};
-ghost use Rattle.base_pool.specs.Steps.{Decodes, Finds, IsKept, Recalls};
+ghost use Rattle.base_pool.specs.Steps.{Decodes, Finds, FindsValue, IsKept, Recalls};
 
 use crate::BaseFault;
 use copy_chunk::Cutter;
@@ -42,23 +42,42 @@ fn decoded(alloc: Global, bytes: &[u8]) -> Result<Option<NameState>, StoreFault>
     }
 }
 
-// The state of a name, from the store.
+/// What the store's value for a name spells, if it has one.
 #[tactic(auto, using(crate::proofs::Found::find_rules))]
+pub(crate) fn find_value<P: Store>(
+    alloc: Global,
+    store: &mut P,
+    name: &Name,
+) -> Result<Option<NameState>, BaseFault>
+    requires live { (P.state store.old).live ≡ true }
+    requires sound { Sound (P.state store.old) }
+    ensures found { FindsValue name.now (P.state store.old) (P.state store.new) result }
+    ensures sound { Sound (P.state store.new) }
+{
+    let key = state_key(alloc, name)?;
+    match store.get(key.as_slice()) {
+        Err(fault) => Err(BaseFault::Store(fault)),
+        Ok(None) => Ok(None),
+        Ok(Some(value)) => match decoded(alloc, value.as_slice()) {
+            Err(fault) => Err(BaseFault::Store(fault)),
+            Ok(Some(state)) => Ok(Some(state)),
+            Ok(None) => Err(BaseFault::BadRecord { name: name.copy()? }),
+        },
+    }
+}
+
+// The state of a name, from the store.
+#[tactic(auto, using(crate::proofs::Found::state_rules))]
 fn find_state<P: Store>(alloc: Global, store: &mut P, name: &Name) -> Result<NameState, BaseFault>
     requires live { (P.state store.old).live ≡ true }
     requires sound { Sound (P.state store.old) }
     ensures found { Finds name.now (P.state store.old) (P.state store.new) result }
     ensures sound { Sound (P.state store.new) }
 {
-    let key = state_key(alloc, name)?;
-    match store.get(key.as_slice()) {
-        Err(fault) => Err(BaseFault::Store(fault)),
+    match find_value(alloc, store, name) {
+        Err(fault) => Err(fault),
+        Ok(Some(state)) => Ok(state),
         Ok(None) => Ok(NameState::unknown(alloc)),
-        Ok(Some(value)) => match decoded(alloc, value.as_slice()) {
-            Err(fault) => Err(BaseFault::Store(fault)),
-            Ok(Some(state)) => Ok(state),
-            Ok(None) => Err(BaseFault::BadRecord { name: name.copy()? }),
-        },
     }
 }
 
