@@ -162,6 +162,14 @@ impl Wires {
         self.flights.drop_call(call);
     }
 
+    /// Drops all work. Messages and replies, what calls await and have noted, and flushes that were
+    /// begun alone stay. It takes no memory.
+    pub fn drop_work(&mut self, alloc: Global)
+        ensures { self.new ≡ with_flights fin.empty self.old }
+    {
+        self.flights = Flights::new(alloc);
+    }
+
     /// Takes memory for the next message. Without it, or when all numbers of messages were given,
     /// nothing changes.
     pub fn reserve_message(&mut self) -> Result<(), NoMemory>
