@@ -8,3 +8,4 @@ pub mod ReadThere
 pub mod WroteHere
 pub mod WroteAll
 pub mod Founded
+pub mod Stopped

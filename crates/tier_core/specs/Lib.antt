@@ -11,5 +11,7 @@ pub mod Founds
 -- how calls are answered
 pub mod Turns
 pub mod Writes
+-- stops and openings
+pub mod Stops
 -- what a step of it is
 pub mod Steps

@@ -17,6 +17,7 @@ mod looking;
 mod parts;
 mod reading;
 mod reading_base;
+mod stopping;
 mod turns;
 mod writing;
 
