@@ -4,3 +4,4 @@ pub mod Shelves
 pub mod Values
 pub mod Waiting
 pub mod Wired
+pub mod Owned

@@ -1,7 +1,9 @@
 //! Values under numbers that only rise.
 ghost use Rattle.std.specs.Prelude.{◌≡◌, ◌==◌, ◌+◌, true, false, [], ◌∷◌, filter, not, OnErr, OnOk};
-ghost use Rattle.std.specs.Map.{lookup, remove_entry};
+ghost use Rattle.std.specs.List.{list_any};
+ghost use Rattle.std.specs.Map.{lookup, remove_entry, values_of};
 ghost use Rattle.std.specs.Option.{option_copied};
+ghost use Rattle.tier_traffic.specs.Messages.{is_owned, is_owned_at, is_owner};
 ghost use Rattle.tier_traffic.specs.Numbered.{is_under};
 
 use obj_model::NoMemory;
@@ -9,6 +11,7 @@ use std::alloc::Global;
 use std::cmp::Reverse;
 use std::collections::BTreeMap;
 use std::marker::Model;
+use tier_view::{Owner, Sent};
 
 /// Values under numbers from 1 on, each of which is given once. Memory for the next value is a
 /// place under its number, which is not seen.
@@ -109,6 +112,47 @@ impl<V: Drop> Numbered<V> {
         if number < self.next {
             take_place(&mut self.inner, number);
         }
+    }
+}
+
+impl Numbered<Sent> {
+    /// Whether one of the messages is this call's. They are gone through.
+    pub(crate) fn are_owned(&self, call: u64) -> bool
+        ensures { result ≡ list_any (is_owned call) (values_of self.now.held) }
+    {
+        are_owned_in(&self.inner, call)
+    }
+}
+
+// The same of the messages at these places.
+fn are_owned_in(places: &BTreeMap<Reverse<u64>, Option<Sent>>, call: u64) -> bool
+    ensures { result ≡ list_any (λ e. is_owned_at call e.1) places.now.entries }
+{
+    for (number, place) in places.iter() {
+        if is_owned_at(call, place) {
+            return true;
+        }
+    }
+    false
+}
+
+// Whether what stands at a place is a message of this call.
+fn is_owned_at(call: u64, place: &Option<Sent>) -> bool
+    ensures { result ≡ is_owned_at call place.now }
+{
+    match place {
+        Some(sent) => is_owner(call, &sent.owner),
+        None => false,
+    }
+}
+
+// Whether an owner is this call.
+fn is_owner(call: u64, owner: &Option<Owner>) -> bool
+    ensures { result ≡ is_owner call owner.now }
+{
+    match owner {
+        Some(owner) => owner.call == call,
+        None => false,
     }
 }
 

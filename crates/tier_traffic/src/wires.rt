@@ -1,5 +1,6 @@
 //! What is between the pools.
 ghost use Rattle.std.specs.FinMap as fin;
+ghost use Rattle.std.specs.List.{list_any};
 ghost use Rattle.std.specs.Option.{option_copied};
 ghost use Rattle.std.specs.Prelude.{◌≡◌, true, false, [], IfOk, OnErr, OnOk};
 ghost use Rattle.tier_flight.specs.Changes.{IsDroppedIn, IsFedIn, IsPromote, IsTakenIn, IsUnheld};
@@ -7,7 +8,7 @@ ghost use Rattle.tier_flight.specs.Joins.{IsJoinedIn, MayJoin};
 ghost use Rattle.tier_flight.specs.Numbers.{IsIdle, IsNewBy, IsSingle, has_call, has_opid};
 ghost use Rattle.tier_view.specs.Changes.{unawaited, unnoted, without_message, without_reply};
 ghost use Rattle.tier_view.specs.Delivers.{replied_now};
-ghost use Rattle.tier_traffic.specs.Messages.{replied_of, sent_now, sent_of};
+ghost use Rattle.tier_traffic.specs.Messages.{is_owned, replied_of, sent_for, sent_now, sent_of};
 ghost use Rattle.tier_traffic.specs.Waits.{awaited_of, awaiting, beginning, begun_of, noted_of, noting, without_begun};
 ghost use Rattle.tier_traffic.specs.Wires.{carrying, with_flights};
 
@@ -207,6 +208,26 @@ impl Wires {
         number
     }
 
+    /// Sends a message under the next number, which it answers, for a call that awaits the reply to
+    /// it and to no other. A Write has an owner. Without memory nothing changes.
+    pub fn send_for(
+        &mut self,
+        call: u64,
+        message: BaseMsg,
+        owner: Option<Owner>,
+    ) -> Result<u64, NoMemory>
+        ensures number { IfOk result (λ number. number ≡ self.old.traffic.next_message) }
+        ensures sent { OnOk result (self.new ≡ record self.old {
+          traffic = sent_for call message owner self.old.traffic;
+          message_room = false;
+        }) }
+        ensures refused { OnErr result (self.new.traffic ≡ self.old.traffic) }
+    {
+        self.reserve_message()?;
+        self.awaited.set(call, self.messages.next())?;
+        Ok(self.send(message, owner))
+    }
+
     /// Sends a reply to the message of this number under the next number of a reply, which it
     /// answers. It takes no memory.
     pub fn reply(&mut self, answers: u64, reply: BaseReply) -> u64
@@ -231,6 +252,13 @@ impl Wires {
         ensures { option_copied result ≡ sent_of self.now.traffic.messages number }
     {
         self.messages.get(number)
+    }
+
+    /// Whether a message that may still reach the base is this call's. All are gone through.
+    pub fn has_sent(&self, call: u64) -> bool
+        ensures { result ≡ list_any (is_owned call) self.now.traffic.messages }
+    {
+        self.messages.are_owned(call)
     }
 
     /// The reply of a number, if it may still be received.
