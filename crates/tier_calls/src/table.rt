@@ -6,10 +6,10 @@ ghost use Rattle.tier_view.specs.Calls.{entry_of};
 ghost use Rattle.tier_view.specs.Changes.{adopted_in, ended_in, gone_in, with_flown};
 ghost use Rattle.tier_view.specs.Steps.{with_call};
 ghost use Rattle.tier_view.specs.Stops.{gone_at};
-ghost use Rattle.tier_calls.specs.Turns.{HasGone};
+ghost use Rattle.tier_calls.specs.Turns.{HasGone, IsTheOne};
 
 use crate::calls::{adopt, end, place_of};
-use crate::work::{go_all, go_at};
+use crate::work::{go_all, go_at, standing_at};
 use obj_model::NoMemory;
 use std::alloc::Global;
 use std::marker::Model;
@@ -136,6 +136,13 @@ impl CallTable {
         } }
     {
         adopt(&mut self.entries, number);
+    }
+
+    /// The work of this operation, where it has not gone. It is found by its number.
+    pub fn standing(&self, opid: u64) -> Option<&Flown>
+        ensures { IsTheOne opid self.now.calls.flown (option_copied result) }
+    {
+        standing_at(self.flown.as_slice(), self.first, opid)
     }
 
     /// Takes memory for so many new entries of work. Without it nothing changes.
