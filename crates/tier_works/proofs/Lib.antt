@@ -9,3 +9,4 @@ pub mod WriteSteps
 pub mod PromotionSteps
 pub mod FlushSteps
 pub mod JoinSteps
+pub mod NewWork

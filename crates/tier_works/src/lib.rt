@@ -6,6 +6,7 @@
 //! this crate do nothing: their contracts are the laws.
 #![tactic(auto)]
 
+mod additions;
 mod flushes;
 mod joins;
 mod promotions;
@@ -14,6 +15,7 @@ mod settings;
 mod waits;
 mod writes;
 
+pub use additions::new_work_is_new;
 pub use flushes::{
     flushes_fly_alone_keeps, flushes_fly_keeps, sending_installs_keeps, taking_flushes_keeps,
     taking_old_flushes_keeps,
