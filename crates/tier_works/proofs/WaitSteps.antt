@@ -6,8 +6,9 @@ use Rattle.tier_view.specs.Calls.{IsInFlight}
 use Rattle.tier_view.specs.declared.parts.Entry.{Entry}
 use Rattle.tier_view.specs.declared.parts.Awaited.{Awaited}
 use Rattle.tier_view.specs.Views.{joined}
+use Rattle.tier_view.proofs.Answering.{steps_join_quiet}
 use Rattle.tier_view.proofs.Resting.{rests_promises}
-use Rattle.tier_works.specs.Waits.{AwaitingKeeps, NotingKeeps}
+use Rattle.tier_works.specs.Waits.{AwaitingEndsStep, AwaitingKeeps, NotingKeeps, with_awaited}
 use Rattle.tier_works.proofs.QuietSteps.{quiet_step, same_entries, same_flown}
 
 -- ---- what a call awaits
@@ -48,6 +49,14 @@ awaiting_keeps v call message awaited h going less is =
           (record { call = call; message = message }) going less h.traffic.awaited is.only;
     })
     h.totals
+
+pub awaiting_ends_step : AwaitingEndsStep
+awaiting_ends_step other wanted u v call message awaited step going less is =
+    let waits = awaiting_keeps v call message awaited step.0 going less is in (
+      waits.0,
+      steps_join_quiet other wanted u v (with_awaited awaited v) step.1 waits.1 (inr refl)
+          (inr refl),
+    )
 
 -- ---- how far a drain has come
 

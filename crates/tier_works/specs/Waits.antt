@@ -1,9 +1,12 @@
 -- What calls await, and how far drains have come.
-use Rattle.std.specs.Prelude.{◌≡◌, ◌<◌, ◌⊎◌, ℕ, List, Some}
+use Rattle.std.specs.Prelude.{◌≡◌, ◌<◌, ◌⊎◌, ℕ, List, Option, Some}
+use Rattle.obj_ops.specs.Stores.{Store}
 use Rattle.tier_chron.specs.declared.asked.Asked.TheVariants.{Drain}
 use Rattle.tier_protocol.specs.Tiers.{IsIn}
 use Rattle.tier_view.specs.Answers.{KeepsQuietly}
 use Rattle.tier_view.specs.Calls.{IsInFlight, entry_of}
+use Rattle.tier_view.specs.Grows.{Wanted}
+use Rattle.tier_view.specs.Laws.{Keeps}
 use Rattle.tier_view.specs.declared.parts.Entry.{Entry}
 use Rattle.tier_view.specs.declared.parts.Awaited.{Awaited}
 use Rattle.tier_view.specs.declared.parts.Noted.{Noted}
@@ -30,6 +33,14 @@ AwaitingKeeps =
     → IsInFlight v.calls.entries call → message < v.traffic.next_message
     → IsAwaiting call message v.traffic.awaited awaited
     → KeepsQuietly v (with_awaited awaited v)
+
+-- behind a step too, as where work begins and is sent
+abbrev pub AwaitingEndsStep : Type 0
+AwaitingEndsStep =
+    (other : Store → Store) (wanted : Option Wanted) (u v : GroupView) (call message : ℕ)
+    (awaited : List Awaited) → Keeps other wanted u v → IsInFlight v.calls.entries call
+    → message < v.traffic.next_message → IsAwaiting call message v.traffic.awaited awaited
+    → Keeps other wanted u (with_awaited awaited v)
 
 -- ---- how far a drain has come
 

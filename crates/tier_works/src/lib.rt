@@ -32,5 +32,5 @@ pub use settings::{
     dropping_modes_keeps, following_modes_keeps, moving_cursors_keeps, setting_modes_keeps,
     setting_moments_keeps,
 };
-pub use waits::{awaiting_keeps, noting_keeps};
+pub use waits::{awaiting_ends_step, awaiting_keeps, noting_keeps};
 pub use writes::{adopting_keeps, sending_writes_quietly, taking_over_keeps, writes_fly_keeps};
