@@ -9,3 +9,8 @@ pub mod WroteHere
 pub mod WroteAll
 pub mod Founded
 pub mod Stopped
+pub mod ServedLater
+pub mod StakedThere
+pub mod ServedThere
+pub mod DeliveredThere
+pub mod HandedOver

@@ -15,3 +15,7 @@ pub mod Writes
 pub mod Stops
 -- what a step of it is
 pub mod Steps
+-- how a message is delivered to the base
+pub mod Stakes
+pub mod Served
+pub mod Deliveries

@@ -9,6 +9,7 @@
 mod acting;
 mod acts;
 mod attaching;
+mod delivering;
 mod ending;
 mod ends;
 mod entering;
@@ -17,10 +18,12 @@ mod looking;
 mod parts;
 mod reading;
 mod reading_base;
+mod stakes;
 mod stopping;
 mod turns;
 mod writing;
 
 pub use attaching::{AttachFault, Setup};
+pub use delivering::Delivered;
 pub use group::Group;
 pub use turns::Turn;

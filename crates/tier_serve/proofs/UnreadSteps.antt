@@ -73,7 +73,7 @@ module _ (v : GroupView) (m : Sent) where
       by true same = serves.put_doubt e op k t at refl
       by false other = stranger b k (ap name_in at) (λ same. eqb-false e E other (sym (ap epoch_in at) ∙ same))
 
-  unread : (b : NameState) (msg : BaseMsg) → m.message ≡ msg → (is_write_message m.message ≡ true → epoch_in m.message ≢ E) → IsInDoubt v m b (unread_doubt E msg)
+  pub unread : (b : NameState) (msg : BaseMsg) → m.message ≡ msg → (is_write_message m.message ≡ true → epoch_in m.message ≢ E) → IsInDoubt v m b (unread_doubt E msg)
   unread b (BaseMsg.Fence e) at other = fenced b e at
   unread b (BaseMsg.GetChunk e op k x) at other = reading_doubt (ap is_reading at) refl
   unread b (BaseMsg.Look e op k x) at other = reading_doubt (ap is_reading at) refl
