@@ -15,6 +15,7 @@ mod ends;
 mod entering;
 mod group;
 mod looking;
+mod observing;
 mod parts;
 mod reading;
 mod reading_base;
