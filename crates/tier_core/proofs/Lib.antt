@@ -14,3 +14,4 @@ pub mod StakedThere
 pub mod ServedThere
 pub mod DeliveredThere
 pub mod HandedOver
+pub mod Lost

@@ -15,6 +15,7 @@ mod ends;
 mod entering;
 mod group;
 mod looking;
+mod losing;
 mod observing;
 mod parts;
 mod reading;
