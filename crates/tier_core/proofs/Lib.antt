@@ -14,4 +14,5 @@ pub mod StakedThere
 pub mod ServedThere
 pub mod DeliveredThere
 pub mod HandedOver
+pub mod Raised
 pub mod Lost

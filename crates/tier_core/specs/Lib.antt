@@ -19,3 +19,5 @@ pub mod Steps
 pub mod Stakes
 pub mod Served
 pub mod Deliveries
+-- how a group is started
+pub mod Raises
