@@ -15,4 +15,5 @@ pub mod ServedThere
 pub mod DeliveredThere
 pub mod HandedOver
 pub mod Raised
+pub mod Fenced
 pub mod Lost

@@ -21,3 +21,4 @@ pub mod Served
 pub mod Deliveries
 -- how a group is started
 pub mod Raises
+pub mod Fences

@@ -13,6 +13,7 @@ mod delivering;
 mod ending;
 mod ends;
 mod entering;
+mod fencing;
 mod group;
 mod looking;
 mod losing;
@@ -28,6 +29,7 @@ mod writing;
 
 pub use attaching::{AttachFault, Setup};
 pub use delivering::Delivered;
+pub use fencing::Heard;
 pub use group::Group;
 pub use raising::RaiseFault;
 pub use turns::Turn;
