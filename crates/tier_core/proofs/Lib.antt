@@ -17,3 +17,5 @@ pub mod HandedOver
 pub mod Raised
 pub mod Fenced
 pub mod Lost
+pub mod LookedThere
+pub mod OpenedThere

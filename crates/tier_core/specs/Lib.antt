@@ -13,6 +13,8 @@ pub mod Turns
 pub mod Writes
 -- stops and openings
 pub mod Stops
+pub mod Opens
+pub mod Looks
 -- what a step of it is
 pub mod Steps
 -- how a message is delivered to the base
