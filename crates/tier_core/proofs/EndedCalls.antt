@@ -68,7 +68,7 @@ module _ (v : GroupView) (base : BaseView) (old new : TableView) (call : ℕ) (a
   abbrev W : GroupView
   W = ended_call call answer flights dropped v
 
-  ended_kept : IsKept v base old → IsWhole W → new.earlier ≡ old.earlier → IsKept W base new
+  pub ended_kept : IsKept v base old → IsWhole W → new.earlier ≡ old.earlier → IsKept W base new
   ended_kept h whole earlier = record {
     whole = whole;
     cached = h.cached;

@@ -19,3 +19,9 @@ pub mod Fenced
 pub mod Lost
 pub mod LookedThere
 pub mod OpenedThere
+pub mod Flies
+pub mod Proxied
+pub mod Told
+pub mod Landed
+pub mod LandedAll
+pub mod Blocked

@@ -24,3 +24,8 @@ pub mod Deliveries
 -- how a group is started
 pub mod Raises
 pub mod Fences
+-- how a write request goes to the base, and lands
+pub mod Proxies
+pub mod Lands
+-- how a call is turned away
+pub mod Blocks

@@ -24,8 +24,8 @@ use tier_chron::{Act, Answer, Logged};
 use tier_rec::{after_act, totals_with};
 use tier_types::TierRec;
 
-// The answer that is an act's reply.
-fn own_answer(reply: Reply) -> Answer
+/// The answer that is an act's reply.
+pub(crate) fn own_answer(reply: Reply) -> Answer
     ensures { result ≡ own_answer reply }
 {
     match reply {
