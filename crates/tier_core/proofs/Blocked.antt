@@ -60,16 +60,6 @@ use Rattle.tier_core.specs.Turns.{IsTurn}
 use Rattle.tier_core.specs.declared.turns.Turn.{Turn}
 use Rattle.tier_core.proofs.Proxied.{turn_asked}
 
--- ---- nothing happens
-
--- a step that changes nothing
-pub nothing_quietly : (v : GroupView) → IsWhole v → KeepsQuietly v v
-nothing_quietly v h =
-    leaving_is_quiet v v
-    (rests_keeps v h v.stores.base_stopped v.traffic v.standing (with_doubt (joined v).doubt) (rests_promises (joined v)) (λ start b z k. k) refl refl h.flights h.traffic
-    (record { cache = h.stops.cache; base = h.stops.base }))
-    (record { stores = refl; log = refl; calls = refl; epoch = refl; opids = refl })
-
 -- ---- who may be turned away
 
 -- a call of which no message is on the wire owns none

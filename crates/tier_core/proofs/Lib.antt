@@ -19,6 +19,7 @@ pub mod Fenced
 pub mod Lost
 pub mod LookedThere
 pub mod OpenedThere
+pub mod Resting
 pub mod Flies
 pub mod Proxied
 pub mod Told

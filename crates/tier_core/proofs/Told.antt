@@ -1,5 +1,5 @@
 -- What the base told of a write request, and its owner.
-use Rattle.std.proofs.Common.{◌≡◌, ◌≤◌, ◌<◌, inl, inr, ℕ, zero, suc, ◌==◌, Bool, true, false, true≢false, List, [], ◌∷◌, cond, drop, get_or, ◌-◌, map, length, Option, Some, None, refl, sym, ap, subst, ◌∙◌, arith}
+use Rattle.std.proofs.Common.{◌≡◌, ◌≤◌, ◌<◌, inl, inr, ℕ, zero, suc, ◌==◌, Bool, true, false, true≢false, List, [], ◌∷◌, cond, drop, get_or, ◌-◌, map, length, Option, Some, None, unwrap_or, refl, sym, ap, subst, ◌∙◌, arith}
 use Rattle.std.specs.Prelude.{Result, Ok, Err, IfOk, MatchOption, if◌then◌else◌}
 use Rattle.std.specs.FinMap as fin
 use Rattle.std.proofs.Math.Seq.{drop-cons}
@@ -26,8 +26,10 @@ use Rattle.tier_core.specs.declared.turns.Turn.{Turn}
 
 -- ---- the work that is told of
 
-one_pair : (a b c d : ℕ) → Some (a, b) ≡ Some (c, d) → (a ≡ c) × (b ≡ d)
-one_pair a b c d e = (cc, cc)
+one_pair : (a b c d : ℕ) → ◌≡◌ {A = Option (ℕ × ℕ)} (Some (a, b)) (Some (c, d)) → (a ≡ c) × (b ≡ d)
+one_pair a b c d e =
+    let same : ◌≡◌ {A = ℕ × ℕ} (a, b) (c, d) = ap (λ (o : Option (ℕ × ℕ)). unwrap_or o (a, b)) e in
+    (ap (λ (p : ℕ × ℕ). p.0) same, ap (λ (p : ℕ × ℕ). p.1) same)
 
 one_name : (n k : Name) → Some n ≡ Some k → n ≡ k
 one_name n k e = cc
@@ -61,11 +63,11 @@ module _ (flights : Flights) (wrote : Wrote) (found : Option Name) (named : IsNa
       → IsDriven flights wrote (record { wrote = wrote; name = copy; driver = driver; owner = owner })
   one_drives name copy driver owner at is drives =
       let f = driven_is (fin.get flights name) driver owner drives in
-      let op : f.0 ≡ wrote.opid = eqb-true f.0 wrote.opid (subst (λ (o : Option Flight). has_opid o wrote.opid ≡ true) f.1.1 ((named name).0 at)) in
+      let op : f.0 ≡ wrote.opid = eqb-true f.0 wrote.opid (subst (λ (o : Option Flight). has_opid o wrote.opid ≡ true) f.2 ((named name).0 at)) in
       record {
         same = refl;
-        req = f.1.0;
-        flight = ap (fin.get flights) is ∙ f.1.1 ∙ ap (λ n. Some (Flight.Write (Some driver) owner n f.1.0)) op;
+        req = f.1;
+        flight = ap (fin.get flights) is ∙ f.2 ∙ ap (λ n. Some (Flight.Write (Some driver) owner n f.1)) op;
       }
 
 module _ (t : Traffic) (epoch number : ℕ) where
@@ -163,16 +165,3 @@ writer_is driver owner entries turn e = by (driver == owner) refl (entry_of entr
       line = k.2;
       begin = k.3;
     }
-
--- ---- the own act of a call, from the last act back
-
--- none of the acts from here on is the call's, and the one before is not
-pub none_from : (call : ℕ) (acts : List Act) (place : ℕ) (d : Act) → 0 < place → place ≤ length acts → ((get_or acts (place - 1) d).call ≡ call → ⊥) → HasNoAct call (drop place acts)
-    → HasNoAct call (drop (place - 1) acts)
-none_from call acts zero d some within other h = absurd (omega (arith, some))
-none_from call acts (suc k) d some within other h = subst (HasNoAct call) (sym (drop-cons acts k d (omega (arith, within)))) (other, h)
-
--- the one before is it
-pub own_at : (acts : List Act) (place : ℕ) (d : Act) → 0 < place → place ≤ length acts → act_at acts place ≡ Some (get_or acts (place - 1) d)
-own_at acts zero d some within = absurd (omega (arith, some))
-own_at acts (suc k) d some within = slice_get-get_or acts k d (omega (arith, within))

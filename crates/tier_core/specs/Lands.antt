@@ -177,6 +177,19 @@ LandsParts told number log after t u w x (landing.GoesOn call) =
     FreesDriver told number log after t u w x call
 LandsParts told number log after t u w x landing.Nothing = ⊥
 
+-- nothing was told, and nothing has changed
+pub record NothingLands (log after : Log) (t u : TableView) (w x : WiresView) : Type 0 where
+  pub log_is : after ≡ log
+  pub calls : u ≡ t
+  pub wires : x ≡ w
+
+abbrev pub LandsTold : Option Told → (number : ℕ) → (log after : Log) → (t u : TableView)
+    → (w x : WiresView) → Landing → Type 0
+LandsTold (Some told) number log after t u w x result =
+    LandsParts told number log after t u w x result
+LandsTold None number log after t u w x landing.Nothing = NothingLands log after t u w x
+LandsTold None number log after t u w x other = ⊥
+
 -- ---- the group
 
 -- a proxied write landed, by the reply of this number, which is forgotten

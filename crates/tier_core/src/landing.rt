@@ -4,7 +4,7 @@ ghost use Rattle.tier_core.specs.Lands.{HearsWrite};
 ghost use Rattle.tier_view.specs.Answers.{KeepsQuietly};
 
 use crate::Group;
-use crate::lands::{land, told_of};
+use crate::lands::{land_told, told_of};
 use obj_model::NoMemory;
 use store_face::Store;
 
@@ -41,9 +41,7 @@ impl<P: Store> Group<P> {
             ..
         } = self;
         history.reserve(1)?;
-        match told_of(wires, start.cache_epoch, reply)? {
-            Some(told) => Ok(land(history, calls, wires, reply, told)),
-            None => Ok(Landing::Nothing),
-        }
+        let told = told_of(wires, start.cache_epoch, reply)?;
+        Ok(land_told(history, calls, wires, reply, told))
     }
 }

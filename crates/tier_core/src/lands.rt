@@ -3,7 +3,7 @@ ghost use Rattle.std.specs.FinMap as fin;
 ghost use Rattle.std.specs.Option.{option_copied};
 ghost use Rattle.std.specs.Prelude.{◌≡◌, ◌≤◌, Some, IfOk, MatchOption};
 ghost use Rattle.tier_core.specs.Ends.{calls_gone};
-ghost use Rattle.tier_core.specs.Lands.{IsDriven, IsOwn, IsOwnFor, IsTold, IsUndriven, IsUntold, LandsParts, driven_by, driven_on, landed_here, owner_turn, told_answer, turn_by, turn_in, wires_landed, wrote_by, wrote_in};
+ghost use Rattle.tier_core.specs.Lands.{IsDriven, IsOwn, IsOwnFor, IsTold, IsUndriven, IsUntold, LandsParts, LandsTold, driven_by, driven_on, landed_here, owner_turn, told_answer, turn_by, turn_in, wires_landed, wrote_by, wrote_in};
 ghost use Rattle.tier_flight.specs.Numbers.{IsNameBy, has_opid};
 ghost use Rattle.tier_view.specs.Answered.{kept_answer};
 
@@ -107,7 +107,7 @@ fn driven_on(flights: &Flights, name: &Name) -> Option<(u64, u64)>
 
 // The write request that is this operation and that a call drives, with what was told of it.
 fn told_on(flights: &Flights, wrote: Wrote, found: Option<&Name>) -> Result<Option<Told>, NoMemory>
-    requires { IsNameBy has_opid flights.now wrote.opid (option_copied found.entry) }
+    requires { IsNameBy has_opid flights.now wrote.opid (option_copied found) }
     ensures { IfOk result (λ told. MatchOption told (IsUndriven flights.now wrote)
         (IsDriven flights.now wrote)) }
 {
@@ -262,9 +262,28 @@ fn land_work(calls: &mut CallTable, wires: &mut Wires, number: u64, told: &Told,
     wires.forget_reply(number);
 }
 
-/// A write request lands by the reply of this number. Its owner is answered, where it drives it,
-/// and is over; else the call that drives it goes on.
-pub(crate) fn land(
+/// What was told of a write request makes it land, by the reply of this number; where nothing was,
+/// nothing changes.
+pub(crate) fn land_told(
+    history: &mut History,
+    calls: &mut CallTable,
+    wires: &mut Wires,
+    number: u64,
+    told: Option<Told>,
+) -> Landing
+    requires { 1 ≤ history.old.spare }
+    ensures { LandsTold told number history.old.log history.new.log calls.old calls.new wires.old
+        wires.new result }
+{
+    match told {
+        Some(told) => land(history, calls, wires, number, told),
+        None => Landing::Nothing,
+    }
+}
+
+// A write request lands by the reply of this number. Its owner is answered, where it drives it,
+// and is over; else the call that drives it goes on.
+fn land(
     history: &mut History,
     calls: &mut CallTable,
     wires: &mut Wires,
