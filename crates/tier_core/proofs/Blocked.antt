@@ -9,9 +9,10 @@ use Rattle.obj_model.specs.declared.tier.Kind.{Kind}
 use Rattle.obj_model.specs.declared.tier.Kind.TheVariants as kind
 use Rattle.obj_model.specs.declared.tier.Path.{Path}
 use Rattle.obj_ops.proofs.Keeping.{ne-eqb}
-use Rattle.std.proofs.lemmas.Bool.{eqb-true, eq-eqb}
+use Rattle.std.proofs.lemmas.Bool.{eqb-true, eq-eqb, ne_eqb}
 use Rattle.tier_calls.specs.Turns.{IsTheOne, StandsAs}
 use Rattle.tier_chron.proofs.Lists.{all_imply}
+use Rattle.tier_chron.specs.Laws.{MayStillAct}
 use Rattle.tier_chron.specs.Logs.{Log}
 use Rattle.tier_chron.specs.Shapes.{HasNoAct, IsBegun, Stands, holds_moves, holds_readings, may_answer, may_go}
 use Rattle.tier_chron.specs.declared.answer.Answer.TheVariants as answer
@@ -54,11 +55,21 @@ use Rattle.tier_view.specs.declared.parts.Sent.{Sent}
 use Rattle.tier_view.specs.Views.{GroupView, asking_by, asking_of, calls_in, joined, ledger_in, memory_of}
 use Rattle.tier_view.specs.Whole.{AsksFor, AsksOf, IsWhole}
 use Rattle.tier_view.specs.Worlds.{IsOwned}
-use Rattle.tier_core.specs.Blocks.{IsFresh, IsHeldUp, MayWant, StandsOther, Wants, blocked_here, told_way}
+use Rattle.tier_core.specs.Blocks.{Blocks, BlocksParts, IsFresh, IsHeldUp, MayWant, StandsOther, TellsHeld, Wants, blocked_here, told_way}
 use Rattle.tier_core.specs.Ends.{GoesWith}
 use Rattle.tier_core.specs.Turns.{IsTurn}
 use Rattle.tier_core.specs.declared.turns.Turn.{Turn}
+use Rattle.base_pool.specs.Views.{BaseView}
+use Rattle.tier_calls.specs.Tables.{TableView}
+use Rattle.tier_traffic.specs.Wires.{WiresView}
+use Rattle.tier_view.specs.Stores.{Stores}
+use Rattle.tier_core.specs.Keeps.{IsKept}
+use Rattle.tier_core.specs.Parts.{group_of}
+use Rattle.tier_core.specs.declared.parts.Agent.{Agent as TheAgent}
+use Rattle.tier_core.specs.declared.parts.Start.{Start as TheStart}
+use Rattle.tier_core.proofs.EndedCalls.{end_is, end_kept, end_step}
 use Rattle.tier_core.proofs.Proxied.{turn_asked}
+use Rattle.tier_core.proofs.Resting.{nothing_quietly}
 
 -- ---- who may be turned away
 
@@ -285,7 +296,7 @@ module _ (v : GroupView) (turn : Turn) (name : Name) (x : Want) (way : Option Pa
       (λ driver op q is.
       let come : HasCome v.calls.flown kind.Write r.name op (λ f. f.call ≡ turn.call) = (h.flights.listed r.name (Flight.Write driver turn.call op q) is).1 in
       let busy : busy_at (Some (Flight.Write driver turn.call op q)) want.Write ≡ Some b =
-      subst (λ o. busy_at o want.Write ≡ Some b) (sym (ap (fin.get v.traffic.flights) (sym named)) ∙ is) (subst (λ y. busy_at (fin.get v.traffic.flights name) y ≡ Some b) wants held.busy) in
+      subst (λ o. busy_at o want.Write ≡ Some b) (ap (fin.get v.traffic.flights) (sym named) ∙ is) (subst (λ y. busy_at (fin.get v.traffic.flights name) y ≡ Some b) wants held.busy) in
       held.other come.entry come.on (record { is = come.standing.opid ∙ sym (told_number driver turn.call op q b busy); there = come.standing.there }) come.whose)
       held.fresh.silent
 
@@ -326,19 +337,83 @@ module _ (v : GroupView) (turn : Turn) (name : Name) (x : Want) (way : Option Pa
 -- ---- what is tested
 
 -- the one entry that stands tells whose it is
-pub others_of : (call opid : ℕ) (fs : List Flown) (f : Flown) → IsTheOne opid fs (Some f) → (f.call ≢ call) ↔ StandsOther call opid fs
+others_of : (call opid : ℕ) (fs : List Flown) (f : Flown) → IsTheOne opid fs (Some f) → (f.call ≢ call) ↔ StandsOther call opid fs
 others_of call opid fs f one = (λ other g on s mine. other (sym (ap (λ (y : Flown). y.call) (one.2 g on s)) ∙ mine), λ all. all f one.0 one.1)
 
-pub others_none : (call opid : ℕ) (fs : List Flown) → IsTheOne opid fs None → StandsOther call opid fs
+differ : (a b : ℕ) → ((not (a == b)) ≡ true) ↔ (a ≢ b)
+differ a b = (λ t same. true≢false (sym t ∙ ap not (eq-eqb a b same)), λ ne. ap not (ne_eqb a b ne))
+
+pub others_tested : (call opid : ℕ) (fs : List Flown) (f : Flown) → IsTheOne opid fs (Some f) → ((not (f.call == call)) ≡ true) ↔ StandsOther call opid fs
+others_tested call opid fs f one =
+    (λ t. (others_of call opid fs f one).0 ((differ f.call call).0 t), λ all. (differ f.call call).1 ((others_of call opid fs f one).1 all))
+
+others_none : (call opid : ℕ) (fs : List Flown) → IsTheOne opid fs None → StandsOther call opid fs
 others_none call opid fs none g on s = absurd (none g on s)
 
 -- no work waits for a call where none is found
-pub idle_where : (flights : Flights) (call : ℕ) → IsNameBy has_call flights call None → IsIdle call flights
+idle_where : (flights : Flights) (call : ℕ) → IsNameBy has_call flights call None → IsIdle call flights
 idle_where flights call named n = by (has_call (fin.get flights n) call) refl
   where
     by : (t : Bool) → has_call (fin.get flights n) call ≡ t → has_call (fin.get flights n) call ≡ false
     by false is = is
     by true is = let no : None ≡ Some n = (named n).1 is in absurd (cc)
 
-pub not_idle : (flights : Flights) (call : ℕ) (n : Name) → IsNameBy has_call flights call (Some n) → IsIdle call flights → ⊥
+not_idle : (flights : Flights) (call : ℕ) (n : Name) → IsNameBy has_call flights call (Some n) → IsIdle call flights → ⊥
 not_idle flights call n named idle = true≢false (sym ((named n).0 refl) ∙ idle n)
+
+-- a call for whose work is found began something
+pub not_fresh : (log : Log) (t : Traffic) (call : ℕ) (n : Name) → IsNameBy has_call t.flights call (Some n) → IsFresh log t call → ⊥
+not_fresh log t call n named fresh = not_idle t.flights call n named fresh.idle
+
+-- a call for which no work is found, and of which no message is on the wire, did not
+pub fresh_where : (log : Log) (t : Traffic) (call : ℕ) (sent act : Bool) → IsNameBy has_call t.flights call None → sent ≡ list_any (is_owned call) t.messages → sent ≡ false
+    → (act ≡ true) ↔ MayStillAct call log → (act ≡ true) ↔ IsFresh log t call
+fresh_where log t call sent act named is silent may =
+    (λ m. record { idle = idle_where t.flights call named; silent = sym is ∙ silent; may = may.0 m }, λ fresh. may.1 fresh.may)
+
+-- ---- what is held up
+
+one_busy : (a b : Busy) → Some a ≡ Some b → a ≡ b
+one_busy a b e = cc
+
+-- what stands on the name is the call's own
+pub not_held : (log : Log) (calls : Calls) (t : Traffic) (call : ℕ) (name : Name) (y : Want) (b d : Busy) → Some b ≡ busy_at (fin.get t.flights name) y → (StandsOther call b.opid calls.flown → ⊥)
+    → IsHeldUp log calls t call name y d → ⊥
+not_held log calls t call name y b d busy own held = own (subst (λ (x : Busy). StandsOther call x.opid calls.flown) (one_busy d b (sym held.busy ∙ sym busy)) held.other)
+
+-- ---- the group behind it
+
+module _ (stores : Stores) (log after : Log) (t u : TableView) (w x : WiresView) (start : TheStart) (agent : TheAgent) (base : BaseView) (turn : Turn) (name : Name) (y : Want) (way : Option Path) where
+  abbrev Old : GroupView
+  Old = group_of stores log t.calls w.traffic start agent
+
+  abbrev New : GroupView
+  New = group_of stores after u.calls x.traffic start agent
+
+  -- what it leaves of a group
+  pub record IsBlockedIn (busy : Option Busy) : Type 0 where
+    pub kept : IsKept New base u
+    pub is : Blocks turn name y way Old New busy
+    pub step : KeepsQuietly Old New
+
+  pub block_all : IsKept Old base t → MayWant Old turn name y way → (busy : Option Busy) → TellsHeld log t.calls w.traffic turn.call name y busy
+      → BlocksParts turn way busy log after t u w x → IsBlockedIn busy
+  block_all h may (Some b) held e =
+      let l : Logged = blocked_here turn (length log.acts) b way in
+      let m : GroupView = ended_call turn.call (Some l) x.traffic.flights e.dropped Old in
+      let quiet : KeepsQuietly Old m = blocked_quietly Old turn name y way b h.whole may held x.traffic.flights e.dropped e.reads e.goes e.left in
+      record {
+        kept = end_kept stores log after t u w x start agent base turn.call (Some l) e.dropped e.logged e.calls e.wires h quiet;
+        is = (held, end_is stores log after t u w x start agent base turn.call (Some l) e.dropped e.logged e.calls e.wires e.goes e.left);
+        step = end_step stores log after t u w x start agent base turn.call (Some l) e.dropped e.logged e.calls e.wires quiet;
+      }
+  block_all h may None held e =
+      let same : New ≡ Old =
+      ap (λ (l : Log). group_of stores l u.calls x.traffic start agent) e.0
+      ∙ ap (λ (z : TableView). group_of stores log z.calls x.traffic start agent) e.1
+      ∙ ap (λ (z : WiresView). group_of stores log t.calls z.traffic start agent) e.2 in
+      record {
+        kept = subst (λ (v : GroupView). IsKept v base u) (sym same) (subst (λ (z : TableView). IsKept Old base z) (sym e.1) h);
+        is = (same, held);
+        step = subst (KeepsQuietly Old) (sym same) (nothing_quietly Old h.whole);
+      }

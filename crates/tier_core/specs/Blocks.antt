@@ -12,8 +12,9 @@ use Rattle.tier_chron.specs.declared.answer.Answer.TheVariants as answer
 use Rattle.tier_chron.specs.declared.asked.Asked.{Asked}
 use Rattle.tier_chron.specs.declared.asked.Asked.TheVariants.{Write, Read, Flush, Evict}
 use Rattle.tier_chron.specs.declared.entries.Logged.{Logged}
+use Rattle.tier_calls.specs.Tables.{TableView}
 use Rattle.tier_calls.specs.Turns.{StandsAs}
-use Rattle.tier_core.specs.Ends.{IsEnded}
+use Rattle.tier_core.specs.Ends.{EndsParts, IsEnded}
 use Rattle.tier_core.specs.Turns.{IsTurn}
 use Rattle.tier_core.specs.declared.turns.Turn.{Turn}
 use Rattle.tier_flight.specs.Busy.{busy_at}
@@ -23,6 +24,7 @@ use Rattle.tier_flight.specs.declared.busy.Want.{Want}
 use Rattle.tier_flight.specs.declared.busy.Want.TheVariants as want
 use Rattle.tier_protocol.specs.Tiers.{Flights, IsIn, Name}
 use Rattle.tier_traffic.specs.Messages.{is_owned}
+use Rattle.tier_traffic.specs.Wires.{WiresView}
 use Rattle.tier_view.specs.Calls.{Calls}
 use Rattle.tier_view.specs.declared.parts.Flown.{Flown}
 use Rattle.tier_view.specs.Traffic.{Traffic}
@@ -91,6 +93,13 @@ blocked_here turn acts b way = record {
   path = told_way b.kind way;
   answer = answer.Blocked b.kind b.opid;
 }
+
+-- the same in the parts
+abbrev pub BlocksParts : Turn → Option Path → Option Busy → (log after : Log) → (t u : TableView)
+    → (w x : WiresView) → Type 0
+BlocksParts turn way (Some b) log after t u w x =
+    EndsParts (blocked_here turn (length log.acts) b way) log after t u w x
+BlocksParts turn way None log after t u w x = (after ≡ log) × (u ≡ t) × (x ≡ w)
 
 -- it was answered with what holds it up, and is over; or nothing holds it up, and nothing changed
 abbrev pub Blocks : Turn → Name → Want → Option Path → (old new : GroupView) → Option Busy

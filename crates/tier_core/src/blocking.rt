@@ -1,6 +1,6 @@
 //! A call is turned away by work on the name that it asked for.
-ghost use Rattle.std.specs.Prelude.{◌≡◌, ◌↔◌, IfOk, IsTrue, OnErr, OnOk};
-ghost use Rattle.tier_core.specs.Blocks.{Blocks, IsFresh, MayWant, StandsOther, TellsHeld, blocked_here, told_way};
+ghost use Rattle.std.specs.Prelude.{◌≡◌, ◌≤◌, ◌↔◌, IfOk, IsTrue, OnErr, OnOk};
+ghost use Rattle.tier_core.specs.Blocks.{Blocks, BlocksParts, IsFresh, MayWant, StandsOther, TellsHeld, blocked_here, told_way};
 ghost use Rattle.tier_view.specs.Answers.{KeepsQuietly};
 
 use crate::ends::end_parts;
@@ -26,7 +26,16 @@ fn is_others(calls: &CallTable, opid: u64, call: u64) -> bool
 fn is_fresh(history: &History, wires: &Wires, call: u64) -> bool
     ensures { IsTrue result ↔ IsFresh history.now.log wires.now.traffic call }
 {
-    wires.flights().by_call(call).is_none() && !wires.has_sent(call) && history.may_act(call)
+    match wires.flights().by_call(call) {
+        Some(_) => false,
+        None => {
+            if wires.has_sent(call) {
+                false
+            } else {
+                history.may_act(call)
+            }
+        }
+    }
 }
 
 // What holds a call up, if anything does.
@@ -42,10 +51,16 @@ fn held_up(
         result }
 {
     match wires.flights().busy(name, want) {
-        Some(busy) if is_fresh(history, wires, call) && is_others(calls, busy.opid, call) => {
+        Some(busy) => {
+            if !is_fresh(history, wires, call) {
+                return None;
+            }
+            if !is_others(calls, busy.opid, call) {
+                return None;
+            }
             Some(busy)
         }
-        _ => None,
+        None => None,
     }
 }
 
@@ -77,6 +92,26 @@ fn blocked_here(turn: Turn, acts: u64, busy: Busy, way: Option<Path>) -> Logged
     }
 }
 
+// Answers a call with what holds it up, and ends it; where nothing does, nothing changes.
+fn block(
+    history: &mut History,
+    calls: &mut CallTable,
+    wires: &mut Wires,
+    turn: Turn,
+    busy: Option<Busy>,
+    way: Option<Path>,
+)
+    requires { 1 ≤ history.old.spare }
+    ensures { BlocksParts turn way busy history.old.log history.new.log calls.old calls.new
+        wires.old wires.new }
+{
+    if let Some(busy) = busy {
+        let acts = history.acts().len() as u64;
+        let logged = blocked_here(turn, acts, busy, way);
+        end_parts(history, calls, wires, turn.call, Some(logged));
+    }
+}
+
 impl<P: Store> Group<P> {
     /// Answers a call in flight that began nothing yet with what holds it up, by the table of what
     /// work on a name keeps out, and ends it. Where no work of another call does, nothing changes.
@@ -101,14 +136,8 @@ impl<P: Store> Group<P> {
             ..
         } = self;
         history.reserve(1)?;
-        match held_up(history, calls, wires, turn.call, name, want) {
-            None => Ok(None),
-            Some(busy) => {
-                let acts = history.acts().len() as u64;
-                let logged = blocked_here(turn, acts, busy, way);
-                end_parts(history, calls, wires, turn.call, Some(logged));
-                Ok(Some(busy))
-            }
-        }
+        let busy = held_up(history, calls, wires, turn.call, name, want);
+        block(history, calls, wires, turn, busy, way);
+        Ok(busy)
     }
 }
