@@ -26,3 +26,5 @@ pub mod Told
 pub mod Landed
 pub mod LandedAll
 pub mod Blocked
+pub mod Unacted
+pub mod ServedHere

@@ -11,6 +11,7 @@ pub mod Founds
 -- how calls are answered
 pub mod Turns
 pub mod Writes
+pub mod Serves
 -- stops and openings
 pub mod Stops
 pub mod Opens
