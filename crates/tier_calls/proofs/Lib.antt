@@ -1,3 +1,4 @@
 pub mod Found
 pub mod Epochs
 pub mod Standing
+pub mod Going

@@ -1,6 +1,7 @@
 //! Calls in their table.
-ghost use Rattle.std.specs.Prelude.{◌≡◌, ◌+◌, ◌<◌, MatchOption, vec_len};
+ghost use Rattle.std.specs.Prelude.{◌≡◌, ◌+◌, ◌<◌, cond, MatchOption, vec_len};
 ghost use Rattle.tier_view.specs.Changes.{adopted_in, ended_in};
+ghost use Rattle.tier_calls.specs.Going.{going_in, is_going};
 ghost use Rattle.tier_calls.specs.Turns.{AreInTurn, HasNoPlace};
 
 use tier_view::Entry;
@@ -19,14 +20,28 @@ pub(crate) fn place_of(number: u64, count: usize) -> Option<usize>
     Some((number - 1) as usize)
 }
 
-/// The call of this number is over.
-pub(crate) fn end(entries: &mut Vec<Entry>, number: u64)
+// Whether the call is in flight and has a line.
+fn is_going(entry: &Entry) -> bool
+    ensures { result ≡ is_going entry.now }
+{
+    entry.line.is_some() && !entry.ended
+}
+
+/// The call of this number is over. Answers whether it was in flight and had a line.
+pub(crate) fn end(entries: &mut Vec<Entry>, number: u64) -> bool
     requires { AreInTurn (λ e. e.number) 1 entries.old.items }
     ensures ended { entries.new.items ≡ ended_in number entries.old.items }
     ensures count { vec_len entries.new ≡ vec_len entries.old }
+    ensures going { going_in entries.old.items
+        ≡ going_in entries.new.items + cond result 1 0 }
 {
-    if let Some(place) = place_of(number, entries.len()) {
-        entries[place].ended = true;
+    match place_of(number, entries.len()) {
+        Some(place) => {
+            let was_going = is_going(&entries[place]);
+            entries[place].ended = true;
+            was_going
+        }
+        None => false,
     }
 }
 

@@ -6,6 +6,7 @@ ghost use Rattle.tier_view.specs.Calls.{entry_of};
 ghost use Rattle.tier_view.specs.Changes.{adopted_in, ended_in, gone_in, with_flown};
 ghost use Rattle.tier_view.specs.Steps.{with_call};
 ghost use Rattle.tier_view.specs.Stops.{gone_at};
+ghost use Rattle.tier_calls.specs.Going.{going_in};
 ghost use Rattle.tier_calls.specs.Turns.{HasGone, IsTheOne};
 
 use crate::calls::{adopt, end, place_of};
@@ -20,17 +21,19 @@ use tier_view::{Entry, Flown};
 ///
 /// Contracts see it as these tables with the last call's number. Beside them they see for how many
 /// new entries of work there is memory (`spare`), and how many entries of work are of earlier
-/// epochs (`earlier`).
+/// epochs (`earlier`). How many calls are in flight and have a line is counted as they come and go.
 #[derive(Drop)]
 pub struct CallTable {
     entries: Vec<Entry>,
+    going: u64,
     flown: Vec<Flown>,
     room: u64,
     first: u64,
 }
 
 impl Model for CallTable {
-    ghost use Rattle.std.specs.Prelude.{◌≤◌, ◌+◌, vec_len, vec_capacity};
+    ghost use Rattle.std.specs.Prelude.{◌≡◌, ◌≤◌, ◌+◌, vec_len, vec_capacity};
+    ghost use Rattle.tier_calls.specs.Going.{going_in};
     ghost use Rattle.tier_calls.specs.Tables.{TableView, coded_table};
     ghost use Rattle.tier_calls.specs.Turns.{AreByEpoch, AreInTurn};
 
@@ -46,7 +49,8 @@ impl Model for CallTable {
 
     ghost invariant = { λ t. AreInTurn (λ e. e.number) 1 t.entries.items
         × AreByEpoch t.first t.flown.items
-        × (vec_len t.flown + t.room ≤ vec_capacity t.flown) };
+        × (vec_len t.flown + t.room ≤ vec_capacity t.flown)
+        × (t.going ≡ going_in t.entries.items) };
 }
 
 impl CallTable {
@@ -60,6 +64,7 @@ impl CallTable {
     {
         CallTable {
             entries: Vec::new(alloc),
+            going: 0,
             flown: Vec::new(alloc),
             room: 0,
             first: 0,
@@ -72,6 +77,13 @@ impl CallTable {
         ensures count { result ≡ length self.now.calls.entries }
     {
         self.entries.len() as u64
+    }
+
+    /// How many calls are in flight and have a line. It is a running count.
+    pub fn going(&self) -> u64
+        ensures { result ≡ going_in self.now.calls.entries }
+    {
+        self.going
     }
 
     /// The entry of a call, if there is one of this number.
@@ -107,6 +119,7 @@ impl CallTable {
         ensures refused { OnErr result (self.new ≡ self.old) }
     {
         let number = self.entries.len() as u64 + 1;
+        let going = self.going + line.is_some() as u64;
         self.entries.push(Entry {
             number,
             line,
@@ -116,6 +129,7 @@ impl CallTable {
             adopted: false,
             ended: false,
         })?;
+        self.going = going;
         Ok(number)
     }
 
@@ -125,7 +139,7 @@ impl CallTable {
           calls = record self.old.calls { entries = ended_in number self.old.calls.entries };
         } }
     {
-        end(&mut self.entries, number);
+        self.going -= end(&mut self.entries, number) as u64;
     }
 
     /// The call of this number has taken over a write request that was left. Where there is none,

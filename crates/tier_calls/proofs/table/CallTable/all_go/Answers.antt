@@ -13,6 +13,7 @@ invariant_of-self c =
           (by_epoch_all c.args.now c.self.inside.first c.self.inside.flown.items
           c.self.invariant.1),
       omega (arith, old, c.go_all.ensures.count, c.go_all.ensures.room),
+      c.self.invariant.3,
     )
 
 pub returns-clause-gone : goal.returns-clause-gone

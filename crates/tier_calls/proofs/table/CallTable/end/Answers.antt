@@ -1,6 +1,8 @@
 use Rattle.std.proofs.Common.{refl, subst, sym, true}
+use Rattle.tier_calls.specs.Going.{going_in}
 use Rattle.tier_calls.specs.Turns.{AreInTurn}
 use Rattle.tier_calls.proofs.Found.{turn_changed}
+use Rattle.tier_calls.proofs.Going.{fewer}
 use Rattle.tier_calls.proofs.table.CallTable.end.Goals as goal
 
 pub invariant_of-self : goal.invariant_of-self
@@ -10,4 +12,6 @@ invariant_of-self c = (
       c.self.inside.entries.items 1 c.self.invariant.0),
   c.self.invariant.1,
   c.self.invariant.2,
+  fewer c.end.result c.self.inside.going (going_in c.self.inside.entries.items) _
+      c.self.invariant.3 c.end.ensures.going,
 )

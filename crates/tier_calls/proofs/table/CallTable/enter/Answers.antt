@@ -1,6 +1,7 @@
-use Rattle.std.proofs.Common.{arith, rules, subst, sym, ◌≡◌, length}
+use Rattle.std.proofs.Common.{arith, refl, rules, subst, sym, ◌≡◌, length}
 use Rattle.tier_calls.specs.Turns.{AreInTurn}
 use Rattle.tier_calls.proofs.Found.{turn_push}
+use Rattle.tier_calls.proofs.Going.{more}
 use Rattle.tier_calls.proofs.table.CallTable.enter.Goals as goal
 
 pub invariant_of-self-2 : goal.invariant_of-self-2
@@ -11,4 +12,6 @@ invariant_of-self-2 c =
           (turn_push (λ e. e.number) es _ 1 (omega (arith, count)) c.self.invariant.0),
       c.self.invariant.1,
       c.self.invariant.2,
+      more es _ c.push.new.self.items c.self.inside.going c.is_some.result c.self.invariant.3
+          refl c.is_some.ensures c.in_ok-push.ensures.items,
     )

@@ -14,4 +14,5 @@ invariant_of-self c =
           (by_epoch_new fs (subst (λ (t : TableView). AllByRecursion HasGone t.calls.flown)
           (sym c.self.view_is) c.requires)),
       c.self.invariant.2,
+      c.self.invariant.3,
     )

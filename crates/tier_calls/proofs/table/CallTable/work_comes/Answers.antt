@@ -18,4 +18,5 @@ invariant_of-self c =
           (by_epoch_push c.self.inside.first c.self.inside.flown.items c.args.flown next
           c.self.invariant.1),
       omega (arith, old, room, c.push_reserved.ensures.len, c.push_reserved.ensures.capacity),
+      c.self.invariant.3,
     )

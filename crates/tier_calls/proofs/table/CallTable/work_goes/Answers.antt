@@ -12,4 +12,5 @@ invariant_of-self c =
           (by_epoch_in c.args.now c.args.opid c.self.inside.first c.self.inside.flown.items
           c.self.invariant.1),
       omega (arith, old, c.go_at.ensures.count, c.go_at.ensures.room),
+      c.self.invariant.3,
     )
