@@ -1,3 +1,4 @@
+pub mod Bodies
 pub mod Images
 pub mod Records
 pub mod Steps

@@ -17,5 +17,5 @@ mod step;
 pub use adding::{add, append, start};
 pub use journal::Journal;
 pub use reading::walk;
-pub use record::Record;
+pub use record::{Record, record_buffer};
 pub use step::put;

@@ -1,5 +1,5 @@
 //! The bytes of a record.
-ghost use Rattle.std.specs.Prelude.{◌≡◌, ◌+◌, ◌<◌, ◌≤◌, ◌^◌, length, IfOk};
+ghost use Rattle.std.specs.Prelude.{◌≡◌, ◌+◌, ◌<◌, ◌≤◌, ◌^◌, length, drop, IfOk};
 ghost use Rattle.tier_outside.specs.Causes.{Rose};
 ghost use Rattle.tier_outside.specs.Disk.{disk_limit};
 ghost use Rattle.tier_outside.specs.DiskMoments.{Now};
@@ -17,18 +17,57 @@ use std::marker::Model;
 use store_face::StoreFault;
 use tier_outside::Disk;
 
-/// What is written behind the gate of a record: its length, its payload and a closed gate.
+/// A buffer in which a record is made: the place of its length, and memory for so many bytes of
+/// payload behind it.
+pub fn record_buffer(alloc: Global, size: usize) -> Result<Vec<u8>, AllocError>
+    ensures { IfOk result (λ buffer. length buffer.items ≡ 4) }
+{
+    let mut buffer = Vec::with_capacity(alloc, size.saturating_add(5))?;
+    buffer.extend_from_slice(&[0; 4])?;
+    Ok(buffer)
+}
+
+// What is written behind the gate of a record: its length, its payload and a closed gate. It is made
+// where the payload stands, behind the place of its length.
+#[tactic(auto, using(crate::proofs::Bodies::sealed_is))]
+fn sealed(buffer: Vec<u8>) -> Result<Vec<u8>, AllocError>
+    requires place { 4 ≤ length buffer.items }
+    requires size { length buffer.items < 2 ^ 32 + 4 }
+    ensures { IfOk result (λ body. body.items ≡ behind_gate (drop 4 buffer.items)) }
+{
+    let mut body = buffer;
+    let size = body.len() - 4;
+    BigEndian::write_u32(&mut body, size as u32);
+    body.push(CLOSED)?;
+    Ok(body)
+}
+
+/// What is written behind the gate of the record of a payload, which is copied.
+#[tactic(auto, using(crate::proofs::Bodies::payload_behind))]
 pub fn record_body(alloc: Global, payload: &[u8]) -> Result<Vec<u8>, AllocError>
     requires { length payload.now < 2 ^ 32 }
     ensures { IfOk result (λ body. body.items ≡ behind_gate payload.now) }
 {
-    let mut size = [0; 4];
-    BigEndian::write_u32(&mut size, payload.len() as u32);
-    let mut body = Vec::with_capacity(alloc, payload.len() + 5)?;
-    body.extend_from_slice(&size)?;
-    body.extend_from_slice(payload)?;
-    body.push(CLOSED)?;
-    Ok(body)
+    let mut buffer = record_buffer(alloc, payload.len())?;
+    buffer.extend_from_slice(payload)?;
+    sealed(buffer)
+}
+
+// Whether so many bytes fit behind a journal's closed gate and before its end.
+fn check_space(journal: &Journal, need: u64) -> Result<(), StoreFault>
+    requires in_range { InRange journal.now }
+    requires small { need < 2 ^ 33 }
+    ensures { AddEnds (journal.now.next + 1) need journal.now.end (Unit {0}) ⊥ result }
+{
+    let used = journal.next + 1;
+    if journal.end < used + need {
+        return Err(StoreFault::NoSpace {
+            used,
+            need,
+            limit: journal.end,
+        });
+    }
+    Ok(())
 }
 
 /// A record that is to be added behind a journal. Contracts see its payload.
@@ -52,7 +91,7 @@ impl Model for Record {
 }
 
 impl Record {
-    /// Makes the record of a payload (below 2^32 bytes) for a journal.
+    /// Makes the record of a payload (below 2^32 bytes) for a journal. The payload is copied.
     ///
     /// `NoSpace` comes exactly where the record and the gate behind it do not fit before the
     /// journal's end: used is the offset behind its closed gate, need is the payload and 5 bytes,
@@ -64,17 +103,35 @@ impl Record {
             (Unit {0}) ⊥ result }
         ensures payload { IfOk result (λ made. made ≡ payload.now) }
     {
-        let used = journal.next + 1;
-        let need = payload.len() as u64 + 5;
-        if journal.end < used + need {
-            return Err(StoreFault::NoSpace {
-                used,
-                need,
-                limit: journal.end,
-            });
+        match check_space(journal, payload.len() as u64 + 5) {
+            Err(fault) => Err(fault),
+            Ok(()) => {
+                let body = record_body(alloc, payload)?;
+                Ok(Record { body })
+            }
         }
-        let body = record_body(alloc, payload)?;
-        Ok(Record { body })
+    }
+
+    /// Makes the record of the payload (below 2^32 bytes) that stands in this buffer behind the
+    /// four bytes of a `record_buffer`. It is made in the buffer, and the payload is not copied
+    /// where that has memory for one byte more.
+    ///
+    /// `NoSpace` comes as with `new`.
+    pub fn of_buffer(journal: &Journal, buffer: Vec<u8>) -> Result<Record, StoreFault>
+        requires in_range { InRange journal.now }
+        requires place { 4 ≤ length buffer.items }
+        requires size { length buffer.items < 2 ^ 32 + 4 }
+        ensures answer { AddEnds (journal.now.next + 1) (length buffer.items + 1) journal.now.end
+            (Unit {0}) ⊥ result }
+        ensures payload { IfOk result (λ made. made ≡ drop 4 buffer.items) }
+    {
+        match check_space(journal, buffer.len() as u64 + 1) {
+            Err(fault) => Err(fault),
+            Ok(()) => {
+                let body = sealed(buffer)?;
+                Ok(Record { body })
+            }
+        }
     }
 
     /// What is written behind its gate.

@@ -20,5 +20,5 @@ pub use fault::ReadError;
 pub use laws::{state_spellings, tier_spellings, txn_spellings};
 pub use reading::read_state;
 pub use tier::{read_tier, write_tier};
-pub use txn::{read_txn, write_txn};
+pub use txn::{put_txn, read_txn, txn_room, write_txn};
 pub use writing::write_state;

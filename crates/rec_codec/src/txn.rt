@@ -177,8 +177,9 @@ fn put_change(out: &mut Vec<u8>, one: &Change) -> Result<(), AllocError>
     }
 }
 
-// The changes behind their number.
-fn put_txn(out: &mut Vec<u8>, changes: &[Change]) -> Result<(), AllocError>
+/// The one spelling of a transaction of 1 to 8 changes that are within their limits and of distinct
+/// keys, put behind what is there.
+pub fn put_txn(out: &mut Vec<u8>, changes: &[Change]) -> Result<(), AllocError>
     requires { IsTxn changes.now }
     ensures { OnOk result (out.new.items ≡ out.old.items ++ txn_bytes changes.now) }
 {
@@ -189,19 +190,19 @@ fn put_txn(out: &mut Vec<u8>, changes: &[Change]) -> Result<(), AllocError>
     Ok(())
 }
 
-/// The one spelling of a transaction of 1 to 8 changes that are within their limits and of distinct
-/// keys.
+/// The same spelling alone.
 pub fn write_txn(alloc: Global, changes: &[Change]) -> Result<Vec<u8>, NoMemory>
     requires { IsTxn changes.now }
     ensures { IfOk result (λ bytes. SpellsTxn bytes.items changes.now) }
 {
-    let mut out = Vec::with_capacity(alloc, txn_len(changes))?;
+    let mut out = Vec::with_capacity(alloc, txn_room(changes))?;
     put_txn(&mut out, changes)?;
     Ok(out)
 }
 
-// The bytes of a transaction's spelling.
-fn txn_len(changes: &[Change]) -> usize {
+/// Room for a transaction's spelling: its bytes, and at most four more for each key that is taken
+/// away.
+pub fn txn_room(changes: &[Change]) -> usize {
     let mut total = 1usize;
     for one in changes {
         let len = match one {
