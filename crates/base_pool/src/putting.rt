@@ -14,7 +14,7 @@ use obj_model::{Bytes, Change, NUMBER_LIMIT, Name, NameState};
 use pool_keys::{epoch_key, state_key, write_epoch};
 use rec_codec::write_state;
 use std::alloc::Global;
-use store_face::{Store, StoreFault};
+use store_face::{Store, StoreFault, commit_one};
 use tier_types::BaseReply;
 
 /// Puts a name's state into the store.
@@ -35,7 +35,7 @@ pub(crate) fn put_state<P: Store>(
 {
     let key = state_key(alloc, name)?;
     let value = Bytes::from_vec(write_state(alloc, state)?);
-    store.commit(&[Change::Put { key, value }])
+    commit_one(alloc, store, Change::Put { key, value })
 }
 
 /// Puts the epoch into the store.
@@ -55,7 +55,7 @@ pub(crate) fn put_epoch<P: Store>(
 {
     let key = epoch_key(alloc)?;
     let value = write_epoch(alloc, epoch)?;
-    store.commit(&[Change::Put { key, value }])
+    commit_one(alloc, store, Change::Put { key, value })
 }
 
 /// What a failed commit is to the sender of the message that needed it.

@@ -9,7 +9,7 @@ use obj_model::{Bytes, Change, NUMBER_LIMIT, Name};
 use pool_keys::{epoch_key, record_key, write_epoch};
 use rec_codec::write_tier;
 use std::alloc::Global;
-use store_face::{Store, StoreFault};
+use store_face::{Store, StoreFault, commit_one};
 use tier_types::TierRec;
 
 // Whether more is needed than is left.
@@ -25,13 +25,14 @@ fn is_over(used: u64, need: u64, limit: u64) -> bool
 // The commit of one change. A store that tells of a want of room with numbers that are none, as
 // only one over a disk that tells nothing can, had no memory for it.
 #[tactic(auto, using(crate::proofs::Committing::commit_rules))]
-fn commit<P: Store>(store: &mut P, change: Change) -> Result<(), StoreFault>
+fn commit<P: Store>(alloc: Global, store: &mut P, change: Change) -> Result<(), StoreFault>
     requires live { (P.state store.old).live ≡ true }
+    requires sound { Sound (P.state store.old) }
     requires lawful { IsTxn (change ∷ []) }
     ensures put { Commits (change ∷ []) (P.state store.old) (P.state store.new) result }
     ensures sound { Sound (P.state store.new) }
 {
-    match store.commit(&[change]) {
+    match commit_one(alloc, store, change) {
         Err(StoreFault::NoSpace { used, need, limit }) => {
             if is_over(used, need, limit) {
                 Err(StoreFault::NoSpace { used, need, limit })
@@ -61,7 +62,7 @@ pub fn put_record<P: Store>(
 {
     let key = record_key(alloc, name)?;
     let value = Bytes::from_vec(write_tier(alloc, &held.state, held.dirty, held.mtime)?);
-    commit(store, Change::Put { key, value })
+    commit(alloc, store, Change::Put { key, value })
 }
 
 /// Takes a name's record out of the store.
@@ -73,7 +74,7 @@ pub fn drop_record<P: Store>(alloc: Global, store: &mut P, name: &Name) -> Resul
     ensures sound { Sound (P.state store.new) }
 {
     let key = record_key(alloc, name)?;
-    commit(store, Change::Remove { key })
+    commit(alloc, store, Change::Remove { key })
 }
 
 /// Puts the epoch into the store.
@@ -88,5 +89,5 @@ pub fn put_epoch<P: Store>(alloc: Global, store: &mut P, epoch: u64) -> Result<(
 {
     let key = epoch_key(alloc)?;
     let value = write_epoch(alloc, epoch)?;
-    commit(store, Change::Put { key, value })
+    commit(alloc, store, Change::Put { key, value })
 }

@@ -86,7 +86,7 @@ pub fn commit<S: Store>(
     let changes = read_txn(alloc, bytes).expect(rt, "memory");
     let changes = changes.expect(rt, "a transaction");
     assert!(rt; store.is_live());
-    store.commit(changes.as_slice())
+    store.commit(changes)
 }
 
 pub fn value_of<S: Store>(rt: &impl Abort, store: &mut S, key: &[u8]) -> Option<Bytes> {

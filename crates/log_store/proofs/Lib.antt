@@ -1,3 +1,4 @@
 pub mod Commits
 pub mod Opens
 pub mod Reopens
+pub mod Spelled

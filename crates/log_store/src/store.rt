@@ -1,5 +1,5 @@
 //! The store: its map in memory, which the journal on its disk makes.
-ghost use Rattle.std.specs.Prelude.{◌≡◌, ◌≤◌, ◌<◌, ◌+◌, ◌++◌, ◌∷◌, [], true, map, vec_len, vec_capacity, IfOk, IfErr};
+ghost use Rattle.std.specs.Prelude.{◌≡◌, ◌≤◌, ◌<◌, ◌+◌, ◌++◌, ◌∷◌, [], true, map, length, drop, vec_len, vec_capacity, IfOk, IfErr};
 ghost use Rattle.std.specs.Option.{option_copied};
 ghost use Rattle.tier_outside.specs.Causes.{Rose};
 ghost use Rattle.tier_outside.specs.Disk.{IsImage};
@@ -7,6 +7,8 @@ ghost use Rattle.tier_outside.specs.DiskMoments.{Leaves, SomeImage};
 ghost use Rattle.obj_model.specs.Changes.{IsTxn};
 ghost use Rattle.store_face.specs.Calls.{Got, Listed, Committed, Reopened};
 ghost use Rattle.store_face.specs.Limits.{store_limit};
+ghost use Rattle.store_face.specs.Rooms.{record_size};
+ghost use Rattle.rec_codec.specs.Spelling.{SpellsTxn};
 ghost use Rattle.store_face.specs.Tables.{changed_by};
 ghost use Rattle.store_face.specs.Views.{Sound, alone};
 ghost use Rattle.pool_map.specs.Pools.{at_rest};
@@ -20,10 +22,10 @@ ghost use Rattle.log_store.specs.Views.{EachHolds, store_of};
 use crate::AttachFault;
 use crate::moment::{Held, Moment};
 use crate::opening::{open, reread};
-use gate_journal::{Journal, Record, add};
-use obj_model::{Bytes, Change, EqualClone, Items, NoMemory, Pool};
+use gate_journal::{Journal, Record, add, record_buffer};
+use obj_model::{Bytes, Change, Items, NoMemory, Pool};
 use pool_map::PoolMap;
-use rec_codec::write_txn;
+use rec_codec::{put_txn, txn_room};
 use std::alloc::Global;
 use std::marker::Model;
 use store_face::{Store, StoreFault};
@@ -70,15 +72,16 @@ impl<D: Disk + Drop> Model for LogStore<D> {
         (map crash_of s.past.items) };
 }
 
-// Copies of the changes.
-fn copies(alloc: Global, changes: &[Change]) -> Result<Vec<Change>, NoMemory>
-    ensures { IfOk result (λ copies. copies.items ≡ changes.now) }
+// The buffer of a record in which changes are spelled as the transaction that is its payload.
+#[tactic(auto, using(crate::proofs::Spelled::spelled_size))]
+fn spelled(alloc: Global, changes: &[Change]) -> Result<Vec<u8>, NoMemory>
+    requires { IsTxn changes.now }
+    ensures spelled { IfOk result (λ buffer. SpellsTxn (drop 4 buffer.items) changes.now) }
+    ensures size { IfOk result (λ buffer. length buffer.items + 1 ≡ record_size changes.now) }
 {
-    let mut copies = Vec::with_capacity(alloc, changes.len())?;
-    for change in changes {
-        copies.push(change.equal_clone()?)?;
-    }
-    Ok(copies)
+    let mut buffer = record_buffer(alloc, txn_room(changes))?;
+    put_txn(&mut buffer, changes)?;
+    Ok(buffer)
 }
 
 // The changes that are prepared are made: a crash may leave what was held before, or that with
@@ -218,25 +221,25 @@ impl<D: Disk + Drop> Store for LogStore<D> {
         Ok(self.pool.keys_after(after, max)?)
     }
 
-    fn commit(&mut self, changes: &[Change]) -> Result<(), StoreFault>
+    fn commit(&mut self, changes: Vec<Change>) -> Result<(), StoreFault>
         requires live { (store_of self.old).live ≡ true }
-        requires lawful { IsTxn changes.now }
-        ensures committed { Committed changes.now (store_of self.old) (store_of self.new) result }
+        requires lawful { IsTxn changes.items }
+        ensures committed { Committed changes.items (store_of self.old) (store_of self.new) result }
         ensures sound { Sound (store_of self.new) }
         ensures any_moment { Leaves self.old.disk self.new.disk
             (λ d image. store.Now (store_of self.old)
-            (λ s. WithOrWithout self.old.role self.old.pair changes.now s.before image)) }
+            (λ s. WithOrWithout self.old.role self.old.pair changes.items s.before image)) }
         ensures refused { KeepsAll self.old self.new result }
         ensures same { SameStore self.old self.new }
     {
-        let payload = write_txn(self.alloc, changes)?;
+        let buffer = spelled(self.alloc, changes.as_slice())?;
         let used = self.journal.next + 1;
-        let behind = used + payload.len() as u64 + 5;
-        match Record::new(self.alloc, &self.journal, payload.as_slice()) {
+        let behind = used + buffer.len() as u64 + 1;
+        match Record::of_buffer(&self.journal, buffer) {
             Err(fault) => Err(fault),
             Ok(more) => {
                 self.past.reserve(2)?;
-                self.pool.prepare(copies(self.alloc, changes)?)?;
+                self.pool.prepare(changes)?;
                 match add(&mut self.disk, &mut self.journal, more) {
                     Ok(()) => {
                         change(&mut self.pool, &mut self.past, used, behind);

@@ -68,7 +68,7 @@ pub fn commit(rt: &impl Abort, alloc: Global, store: &mut LogStore<MemDisk>, byt
     let changes = read_txn(alloc, bytes).expect(rt, "memory");
     let changes = changes.expect(rt, "a transaction");
     assert!(rt; store.is_live());
-    assert_eq!(rt; store.commit(changes.as_slice()), Ok(()));
+    assert_eq!(rt; store.commit(changes), Ok(()));
 }
 
 pub fn name(alloc: Global) -> Result<Name, Fail> {

@@ -144,9 +144,23 @@ fn table_len(pairs: &PairMap) -> usize {
     total
 }
 
-/// The bytes of a state's spelling, where no kept request was refused for its size.
+// The bytes of a kept request in a spelling.
+fn kept_len(one: &Kept) -> usize {
+    match one.reply {
+        Reply::Done { ver: _ } => 19,
+        Reply::Refused { at: _, why, ver: _ } => match why {
+            Why::TooBig { limit: _, asked: _ } => 37,
+            _ => 21,
+        },
+    }
+}
+
+/// The bytes of a state's spelling, which a store keeps in the buffer that is made for them.
 pub(crate) fn state_len(state: &NameState) -> usize {
-    let mut total = 19usize.saturating_add(state.seen.as_slice().len().saturating_mul(28));
+    let mut total = 19usize;
+    for one in state.seen.as_slice() {
+        total = total.saturating_add(kept_len(one));
+    }
     if let Some(obj) = &state.obj {
         total = total.saturating_add(4);
         total = total.saturating_add(obj.body.as_slice().len());

@@ -5,7 +5,9 @@
 #![tactic(auto)]
 
 mod fault;
+mod one;
 mod store;
 
 pub use fault::StoreFault;
+pub use one::{commit_one, one_change};
 pub use store::Store;

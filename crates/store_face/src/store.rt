@@ -45,15 +45,16 @@ pub trait Store: Drop {
 
     /// Makes 1 to 8 changes on distinct keys, all of them or none: at each moment a crash leaves
     /// the map before or the map after them, and once this answers Ok each later crash leaves the
-    /// latter.
+    /// latter. The changes are handed over, so that a store which keeps their values need not copy
+    /// them.
     ///
     /// `NoSpace` comes exactly where there is no room for the changes, with what is used, what they
     /// need, and the limit; `Worn` only where a number that each rewriting of the store raises is
     /// at its end. These two and `NoMemory` change nothing.
-    fn commit(&mut self, changes: &[Change]) -> Result<(), StoreFault>
+    fn commit(&mut self, changes: Vec<Change>) -> Result<(), StoreFault>
         requires live { (state self.old).live ≡ true }
-        requires lawful { IsTxn changes.now }
-        ensures committed { Committed changes.now (state self.old) (state self.new) result }
+        requires lawful { IsTxn changes.items }
+        ensures committed { Committed changes.items (state self.old) (state self.new) result }
         ensures sound { Sound (state self.new) };
 
     /// Opens the store anew, as after a crash: it has one of the maps that a crash might have left,

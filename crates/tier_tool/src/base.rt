@@ -23,7 +23,7 @@ use obj_model::{Bytes, Change, Name, NameState, NoMemory, Req, Vector};
 use obj_ops::{Acted, act, look};
 use rec_codec::{read_state, write_state};
 use std::alloc::Global;
-use store_face::{Store, StoreFault};
+use store_face::{Store, StoreFault, one_change};
 use tier_chron::Answer;
 use tier_outside::Disk;
 
@@ -191,7 +191,7 @@ fn put_state<D: Disk + Drop>(
 {
     let key = key_of(alloc, name)?;
     let value = Bytes::from_vec(write_state(alloc, state)?);
-    match pool.commit(&[Change::Put { key, value }]) {
+    match pool.commit(one_change(alloc, Change::Put { key, value })?) {
         Ok(()) => Ok(()),
         Err(fault) => Err(line_fault(fault)),
     }

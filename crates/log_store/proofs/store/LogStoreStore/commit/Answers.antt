@@ -1,7 +1,10 @@
-use Rattle.std.proofs.Common.{◌∙◌, ◌≡◌, ◌+◌, ℕ, arith, refl, sym, ap, ap₂, subst, length, map, true, false, List, [], ◌∷◌, ◌++◌}
+use Rattle.std.proofs.Common.{Err, drop, ◌∙◌, ◌≡◌, ◌+◌, ℕ, arith, refl, sym, ap, ap₂, subst, length, map, true, false, List, [], ◌∷◌, ◌++◌}
 use Rattle.obj_model.specs.declared.change.Change.{Change}
 use Rattle.tier_outside.proofs.Moments.{last_push}
+use Rattle.std.proofs.Math.Path.{subst₂}
+use Rattle.std.proofs.lemmas.List.{length-drop}
 use Rattle.gate_journal.proofs.Steps.{leaves_same}
+use Rattle.gate_journal.specs.Calls.{AddEnds}
 use Rattle.gate_journal.specs.declared.journal.Journal.{Journal}
 use Rattle.rec_codec.specs.Spelling.{SpellsTxn}
 use Rattle.pool_map.specs.Pools.{PoolView, at_rest}
@@ -15,20 +18,31 @@ use Rattle.log_store.specs.Views.{LogView, store_of}
 use Rattle.log_store.proofs.Commits.{Adds, any_moment, committed, not_committed, pushed_is, refused, sound, sound_as, sound_still, torn, txn_short, whole_after, whole_failed}
 use Rattle.log_store.proofs.store.LogStoreStore.commit.Goals as goal
 
-pub returns-in_err-payload-clause-sound : goal.returns-in_err-payload-clause-sound
-returns-in_err-payload-clause-sound g c = sound_as c.args.self.now _ _ _ _ _ _ _ _ c.self.view_is c.self.invariant
+pub returns-in_err-buffer-clause-sound : goal.returns-in_err-buffer-clause-sound
+returns-in_err-buffer-clause-sound g c = sound_as c.args.self.now _ _ _ _ _ _ _ _ c.self.view_is c.self.invariant
 
-pub new-requires-clause-size : goal.new-requires-clause-size
-new-requires-clause-size g c =
-    txn_short _ c.args.changes.now (subst (λ xs. SpellsTxn xs c.args.changes.now) (sym c.as_slice.ensures.value) c.in_ok-payload.ensures)
+pub of_buffer-requires-clause-size : goal.of_buffer-requires-clause-size
+of_buffer-requires-clause-size g c =
+    let buffer = c.in_ok-buffer.buffer.items in
+    omega (
+      arith,
+      length-drop 4 buffer,
+      txn_short (drop 4 buffer) c.as_slice.result.now c.in_ok-buffer.ensures.spelled,
+    )
 
 pub returns-in-Err-clause-committed : goal.returns-in-Err-clause-committed
 returns-in-Err-clause-committed g c =
     let s = c.self.inside in
-    let cs = c.args.changes.now in
-    let spells : SpellsTxn c.as_slice.result.now cs = subst (λ xs. SpellsTxn xs cs) (sym c.as_slice.ensures.value) c.in_ok-payload.ensures in
-    refused (Unit {0}) c.args.self.now c.in-Err.fault (g.D.Disk.moments s.disk) (g.D.Disk.faults s.disk) s.live s.role s.pair s.journal.end (s.journal.next + 1) (map crash_of s.past.items)
-    c.as_slice.result.now cs c.self.view_is spells c.in-Err.ensures.answer
+    let cs = c.args.changes.items in
+    let payload = drop 4 c.in_ok-buffer.buffer.items in
+    let spells : SpellsTxn payload cs =
+    subst (SpellsTxn payload) c.as_slice.ensures.value c.in_ok-buffer.ensures.spelled in
+    let size : length c.in_ok-buffer.buffer.items + 1 ≡ length payload + 5 =
+    omega (arith, (c.in_ok-buffer.ensures.size ∙ ap record_size c.as_slice.ensures.value), payload_size payload cs spells) in
+    refused (List ℕ) c.args.self.now c.in-Err.fault (g.D.Disk.moments s.disk) (g.D.Disk.faults s.disk) s.live s.role s.pair s.journal.end (s.journal.next + 1) (map crash_of s.past.items)
+    payload cs c.self.view_is spells
+    (subst (λ n. AddEnds {T = List ℕ} (s.journal.next + 1) n s.journal.end (Unit {0}) ⊥
+    (Err c.in-Err.fault)) size c.in-Err.ensures.answer)
 
 pub returns-in-Err-clause-sound : goal.returns-in-Err-clause-sound
 returns-in-Err-clause-sound g c = sound_as c.args.self.now _ _ _ _ _ _ _ _ c.self.view_is c.self.invariant
@@ -42,15 +56,6 @@ returns-in_err-reserve-in-Ok-clause-sound g c =
 pub returns-in_err-reserve-in-Ok-clause-any_moment : goal.returns-in_err-reserve-in-Ok-clause-any_moment
 returns-in_err-reserve-in-Ok-clause-any_moment g c = leaves_same _ _ _ (ap (λ (v : LogView). v.disk) c.self.view_is)
 
-pub returns-in_err-copies-in-Ok-clause-sound : goal.returns-in_err-copies-in-Ok-clause-sound
-returns-in_err-copies-in-Ok-clause-sound g c =
-    let s = c.self.inside in
-    sound_still s.role s.pair s.journal s.pool s.live (g.D.Disk.moments s.disk) (map crash_of s.past.items) (map crash_of c.reserve.new.self.items)
-    (g.D.Disk.faults s.disk) s.journal.end (ap (map crash_of) c.reserve.ensures.items) c.self.invariant
-
-pub returns-in_err-copies-in-Ok-clause-any_moment : goal.returns-in_err-copies-in-Ok-clause-any_moment
-returns-in_err-copies-in-Ok-clause-any_moment g c = leaves_same _ _ _ (ap (λ (v : LogView). v.disk) c.self.view_is)
-
 pub returns-in_err-prepare-in-Ok-clause-sound : goal.returns-in_err-prepare-in-Ok-clause-sound
 returns-in_err-prepare-in-Ok-clause-sound g c =
     let s = c.self.inside in
@@ -62,45 +67,48 @@ returns-in_err-prepare-in-Ok-clause-any_moment g c = leaves_same _ _ _ (ap (λ (
 
 pub add-requires-clause-size : goal.add-requires-clause-size
 add-requires-clause-size g c =
-    txn_short c.in-Ok.more c.args.changes.now
-    (subst (λ xs. SpellsTxn xs c.args.changes.now) (sym (c.in-Ok.ensures.payload ∙ c.as_slice.ensures.value)) c.in_ok-payload.ensures)
+    txn_short c.in-Ok.more c.args.changes.items
+    (subst₂ SpellsTxn (sym c.in-Ok.ensures.payload) c.as_slice.ensures.value
+    c.in_ok-buffer.ensures.spelled)
 
 pub invariant_of-self-in-Ok-add : goal.invariant_of-self-in-Ok-add
 invariant_of-self-in-Ok-add g c =
     let s = c.self.inside in
     let t = s.pool.table in
-    let cs = c.args.changes.now in
+    let cs = c.args.changes.items in
     let lives : s.live ≡ true = ap (λ (v : LogView). v.live) c.self.view_is ∙ c.requires.live in
     let spells : SpellsTxn c.in-Ok.more cs =
-    subst (λ xs. SpellsTxn xs cs) (sym (c.in-Ok.ensures.payload ∙ c.as_slice.ensures.value)) c.in_ok-payload.ensures in
-    let size : c.len.result + 5 ≡ record_size cs =
-    omega (arith, c.len.ensures, payload_size c.in_ok-payload.payload.items cs c.in_ok-payload.ensures) in
-    let ready : c.prepare.new.self.ready ≡ cs = c.in_ok-prepare-in-Ok.ensures.ready ∙ c.in_ok-copies-in-Ok.ensures in
+    subst₂ SpellsTxn (sym c.in-Ok.ensures.payload) c.as_slice.ensures.value
+    c.in_ok-buffer.ensures.spelled in
+    let size : c.len.result + 1 ≡ record_size cs =
+    omega (arith, c.len.ensures, (c.in_ok-buffer.ensures.size ∙ ap record_size c.as_slice.ensures.value)) in
+    let ready : c.prepare.new.self.ready ≡ cs = c.in_ok-prepare-in-Ok.ensures.ready in
     let pushed : map crash_of c.change.new.past.items ≡ map crash_of s.past.items ++ torn cs (held s.journal t) ∷ [] =
     pushed_is (map crash_of s.past.items) (map crash_of c.reserve.new.self.items) (map crash_of c.change.new.past.items) t c.prepare.new.self.table cs c.prepare.new.self.ready _ _
     (ap (map crash_of) c.reserve.ensures.items) c.in_ok-prepare-in-Ok.ensures.same ready (omega (arith, size)) c.change.ensures.past in
     let changes : c.change.new.pool ≡ at_rest (changed_by t cs) =
     c.change.ensures.pool ∙ ap₂ (λ (x : Table) (y : List Change). at_rest (changed_by x y)) c.in_ok-prepare-in-Ok.ensures.same ready in
-    let place : s.journal.next + 1 + c.len.result + 5 ≡ c.add.new.journal.next + 1 =
+    let place : s.journal.next + 1 + c.len.result + 1 ≡ c.add.new.journal.next + 1 =
     omega (arith, size, payload_size c.in-Ok.more cs spells, ap (λ (j : Journal). j.next) c.in-Ok-add.ensures.moved) in
     let now : last (map crash_of c.settle.new.past.items) ≡ alone (held c.add.new.journal (changed_by t cs)) =
     ap last c.settle.ensures ∙ last_push no_map (map crash_of c.change.new.past.items) _
     ∙ ap₂ (λ (x : PoolView) (n : ℕ). alone (record { table = x.table; used = n })) changes place in
     whole_after s.role s.pair s.journal c.add.new.journal c.change.new.pool s.live (g.D.Disk.moments s.disk) (g.D.Disk.moments c.add.new.disk)
     (Adds s.journal c.in-Ok.more) (map crash_of c.settle.new.past.items) t c.in-Ok.more cs c.self.invariant.journal_is c.in-Ok-add.ensures.moved
-    (omega (arith, c.in-Ok.ensures.answer, ap length c.in-Ok.ensures.payload)) changes (c.self.invariant.stands lives) spells c.in-Ok-add.ensures.any_moment c.in-Ok-add.ensures.stands now
+    (omega (arith, c.in-Ok.ensures.answer, (c.in_ok-buffer.ensures.size ∙ ap record_size c.as_slice.ensures.value), payload_size c.in-Ok.more cs spells)) changes (c.self.invariant.stands lives) spells c.in-Ok-add.ensures.any_moment c.in-Ok-add.ensures.stands now
 
 pub returns-in-Ok-add-clause-committed : goal.returns-in-Ok-add-clause-committed
 returns-in-Ok-add-clause-committed g c =
     let s = c.self.inside in
     let t = s.pool.table in
-    let cs = c.args.changes.now in
+    let cs = c.args.changes.items in
     let lives : s.live ≡ true = ap (λ (v : LogView). v.live) c.self.view_is ∙ c.requires.live in
     let spells : SpellsTxn c.in-Ok.more cs =
-    subst (λ xs. SpellsTxn xs cs) (sym (c.in-Ok.ensures.payload ∙ c.as_slice.ensures.value)) c.in_ok-payload.ensures in
-    let size : c.len.result + 5 ≡ record_size cs =
-    omega (arith, c.len.ensures, payload_size c.in_ok-payload.payload.items cs c.in_ok-payload.ensures) in
-    let ready : c.prepare.new.self.ready ≡ cs = c.in_ok-prepare-in-Ok.ensures.ready ∙ c.in_ok-copies-in-Ok.ensures in
+    subst₂ SpellsTxn (sym c.in-Ok.ensures.payload) c.as_slice.ensures.value
+    c.in_ok-buffer.ensures.spelled in
+    let size : c.len.result + 1 ≡ record_size cs =
+    omega (arith, c.len.ensures, (c.in_ok-buffer.ensures.size ∙ ap record_size c.as_slice.ensures.value)) in
+    let ready : c.prepare.new.self.ready ≡ cs = c.in_ok-prepare-in-Ok.ensures.ready in
     let pushed : map crash_of c.change.new.past.items ≡ map crash_of s.past.items ++ torn cs (held s.journal t) ∷ [] =
     pushed_is (map crash_of s.past.items) (map crash_of c.reserve.new.self.items) (map crash_of c.change.new.past.items) t c.prepare.new.self.table cs c.prepare.new.self.ready _ _
     (ap (map crash_of) c.reserve.ensures.items) c.in_ok-prepare-in-Ok.ensures.same ready (omega (arith, size)) c.change.ensures.past in
@@ -112,7 +120,7 @@ returns-in-Ok-add-clause-committed g c =
     (map crash_of c.change.new.past.items) (map crash_of c.settle.new.past.items) (held s.journal t) cs s.live s.live (g.D.Disk.faults s.disk) (g.D.Disk.faults c.add.new.disk)
     s.journal.end c.add.new.journal.end (s.journal.next + 1) (c.add.new.journal.next + 1)
     (ap store_of c.self.view_is) c.in-Ok-add.ensures.any_moment (c.self.invariant.one lives) pushed again lives c.in-Ok-add.ensures.cause.later
-    (omega (arith, payload_size c.in-Ok.more cs spells, c.in-Ok.ensures.answer, ap length c.in-Ok.ensures.payload)) (ap (λ (j : Journal). j.end) c.in-Ok-add.ensures.moved)
+    (omega (arith, payload_size c.in-Ok.more cs spells, c.in-Ok.ensures.answer, (c.in_ok-buffer.ensures.size ∙ ap record_size c.as_slice.ensures.value))) (ap (λ (j : Journal). j.end) c.in-Ok-add.ensures.moved)
     (omega (arith, payload_size c.in-Ok.more cs spells, ap (λ (j : Journal). j.next) c.in-Ok-add.ensures.moved))
 
 pub returns-in-Ok-add-clause-sound : goal.returns-in-Ok-add-clause-sound
@@ -124,10 +132,11 @@ pub returns-in-Ok-add-clause-any_moment : goal.returns-in-Ok-add-clause-any_mome
 returns-in-Ok-add-clause-any_moment g c =
     let s = c.self.inside in
     let t = s.pool.table in
-    let cs = c.args.changes.now in
+    let cs = c.args.changes.items in
     let lives : s.live ≡ true = ap (λ (v : LogView). v.live) c.self.view_is ∙ c.requires.live in
     let spells : SpellsTxn c.in-Ok.more cs =
-    subst (λ xs. SpellsTxn xs cs) (sym (c.in-Ok.ensures.payload ∙ c.as_slice.ensures.value)) c.in_ok-payload.ensures in
+    subst₂ SpellsTxn (sym c.in-Ok.ensures.payload) c.as_slice.ensures.value
+    c.in_ok-buffer.ensures.spelled in
     any_moment c.args.self.now (g.D.Disk.moments s.disk) (g.D.Disk.moments c.add.new.disk) (g.D.Disk.faults s.disk) s.live s.role s.pair s.journal.end s.journal (map crash_of s.past.items) t
     c.in-Ok.more cs c.self.view_is (c.self.invariant.one lives) (c.self.invariant.stands lives) c.self.invariant.journal_is spells c.in-Ok-add.ensures.any_moment
 
@@ -135,13 +144,14 @@ pub invariant_of-self-in-Err-add : goal.invariant_of-self-in-Err-add
 invariant_of-self-in-Err-add g c =
     let s = c.self.inside in
     let t = s.pool.table in
-    let cs = c.args.changes.now in
+    let cs = c.args.changes.items in
     let lives : s.live ≡ true = ap (λ (v : LogView). v.live) c.self.view_is ∙ c.requires.live in
     let spells : SpellsTxn c.in-Ok.more cs =
-    subst (λ xs. SpellsTxn xs cs) (sym (c.in-Ok.ensures.payload ∙ c.as_slice.ensures.value)) c.in_ok-payload.ensures in
-    let size : c.len.result + 5 ≡ record_size cs =
-    omega (arith, c.len.ensures, payload_size c.in_ok-payload.payload.items cs c.in_ok-payload.ensures) in
-    let ready : c.prepare.new.self.ready ≡ cs = c.in_ok-prepare-in-Ok.ensures.ready ∙ c.in_ok-copies-in-Ok.ensures in
+    subst₂ SpellsTxn (sym c.in-Ok.ensures.payload) c.as_slice.ensures.value
+    c.in_ok-buffer.ensures.spelled in
+    let size : c.len.result + 1 ≡ record_size cs =
+    omega (arith, c.len.ensures, (c.in_ok-buffer.ensures.size ∙ ap record_size c.as_slice.ensures.value)) in
+    let ready : c.prepare.new.self.ready ≡ cs = c.in_ok-prepare-in-Ok.ensures.ready in
     let pushed : map crash_of c.change-in-Err-add.new.past.items ≡ map crash_of s.past.items ++ torn cs (held s.journal t) ∷ [] =
     pushed_is (map crash_of s.past.items) (map crash_of c.reserve.new.self.items) (map crash_of c.change-in-Err-add.new.past.items) t c.prepare.new.self.table cs c.prepare.new.self.ready _ _
     (ap (map crash_of) c.reserve.ensures.items) c.in_ok-prepare-in-Ok.ensures.same ready (omega (arith, size)) c.change-in-Err-add.ensures.past in
@@ -152,17 +162,18 @@ invariant_of-self-in-Err-add g c =
     changes (c.self.invariant.stands lives) spells c.in-Err-add.ensures.any_moment
     (ap last pushed ∙ last_push no_map (map crash_of s.past.items) (torn cs (held s.journal t)))
 
-pub returns-clause-committed : goal.returns-clause-committed
-returns-clause-committed g c =
+pub returns-in-Err-add-clause-committed : goal.returns-in-Err-add-clause-committed
+returns-in-Err-add-clause-committed g c =
     let s = c.self.inside in
     let t = s.pool.table in
-    let cs = c.args.changes.now in
+    let cs = c.args.changes.items in
     let lives : s.live ≡ true = ap (λ (v : LogView). v.live) c.self.view_is ∙ c.requires.live in
     let spells : SpellsTxn c.in-Ok.more cs =
-    subst (λ xs. SpellsTxn xs cs) (sym (c.in-Ok.ensures.payload ∙ c.as_slice.ensures.value)) c.in_ok-payload.ensures in
-    let size : c.len.result + 5 ≡ record_size cs =
-    omega (arith, c.len.ensures, payload_size c.in_ok-payload.payload.items cs c.in_ok-payload.ensures) in
-    let ready : c.prepare.new.self.ready ≡ cs = c.in_ok-prepare-in-Ok.ensures.ready ∙ c.in_ok-copies-in-Ok.ensures in
+    subst₂ SpellsTxn (sym c.in-Ok.ensures.payload) c.as_slice.ensures.value
+    c.in_ok-buffer.ensures.spelled in
+    let size : c.len.result + 1 ≡ record_size cs =
+    omega (arith, c.len.ensures, (c.in_ok-buffer.ensures.size ∙ ap record_size c.as_slice.ensures.value)) in
+    let ready : c.prepare.new.self.ready ≡ cs = c.in_ok-prepare-in-Ok.ensures.ready in
     let pushed : map crash_of c.change-in-Err-add.new.past.items ≡ map crash_of s.past.items ++ torn cs (held s.journal t) ∷ [] =
     pushed_is (map crash_of s.past.items) (map crash_of c.reserve.new.self.items) (map crash_of c.change-in-Err-add.new.past.items) t c.prepare.new.self.table cs c.prepare.new.self.ready _ _
     (ap (map crash_of) c.reserve.ensures.items) c.in_ok-prepare-in-Ok.ensures.same ready (omega (arith, size)) c.change-in-Err-add.ensures.past in
@@ -172,16 +183,17 @@ returns-clause-committed g c =
     (map crash_of c.change-in-Err-add.new.past.items) (held s.journal t) cs s.live false (g.D.Disk.faults s.disk) (g.D.Disk.faults c.add.new.disk)
     s.journal.end c.add.new.journal.end (s.journal.next + 1) (c.add.new.journal.next + 1)
     (ap store_of c.self.view_is) c.in-Err-add.ensures.any_moment (c.self.invariant.one lives) pushed refl c.in-Err-add.ensures.cause.failed c.in-Err-add.ensures.cause.later
-    (omega (arith, payload_size c.in-Ok.more cs spells, c.in-Ok.ensures.answer, ap length c.in-Ok.ensures.payload)) (ap (λ (j : Journal). j.end) c.in-Err-add.ensures.kept)
+    (omega (arith, payload_size c.in-Ok.more cs spells, c.in-Ok.ensures.answer, (c.in_ok-buffer.ensures.size ∙ ap record_size c.as_slice.ensures.value))) (ap (λ (j : Journal). j.end) c.in-Err-add.ensures.kept)
     (omega (arith, ap (λ (j : Journal). j.next) c.in-Err-add.ensures.kept))
 
-pub returns-clause-any_moment : goal.returns-clause-any_moment
-returns-clause-any_moment g c =
+pub returns-in-Err-add-clause-any_moment : goal.returns-in-Err-add-clause-any_moment
+returns-in-Err-add-clause-any_moment g c =
     let s = c.self.inside in
     let t = s.pool.table in
-    let cs = c.args.changes.now in
+    let cs = c.args.changes.items in
     let lives : s.live ≡ true = ap (λ (v : LogView). v.live) c.self.view_is ∙ c.requires.live in
     let spells : SpellsTxn c.in-Ok.more cs =
-    subst (λ xs. SpellsTxn xs cs) (sym (c.in-Ok.ensures.payload ∙ c.as_slice.ensures.value)) c.in_ok-payload.ensures in
+    subst₂ SpellsTxn (sym c.in-Ok.ensures.payload) c.as_slice.ensures.value
+    c.in_ok-buffer.ensures.spelled in
     any_moment c.args.self.now (g.D.Disk.moments s.disk) (g.D.Disk.moments c.add.new.disk) (g.D.Disk.faults s.disk) s.live s.role s.pair s.journal.end s.journal (map crash_of s.past.items) t
     c.in-Ok.more cs c.self.view_is (c.self.invariant.one lives) (c.self.invariant.stands lives) c.self.invariant.journal_is spells c.in-Err-add.ensures.any_moment
