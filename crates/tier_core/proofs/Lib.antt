@@ -28,3 +28,5 @@ pub mod LandedAll
 pub mod Blocked
 pub mod Unacted
 pub mod ServedHere
+pub mod FoundHere
+pub mod OpenedHere

@@ -23,6 +23,7 @@ mod losing;
 mod observing;
 mod opening;
 mod opening_base;
+mod opening_cache;
 mod parts;
 mod proxying;
 mod raising;
