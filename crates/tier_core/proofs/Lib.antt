@@ -30,3 +30,4 @@ pub mod Unacted
 pub mod ServedHere
 pub mod FoundHere
 pub mod OpenedHere
+pub mod ServedAsk

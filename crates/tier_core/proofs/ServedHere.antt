@@ -1,7 +1,8 @@
 -- A client's call is served from a record of the cache.
-use Rattle.std.proofs.Common.{◌≡◌, Bool, true, false, if◌then◌else◌, inl, ℕ, List, Option, Some, None, refl, sym, ap, subst, ◌∙◌}
+use Rattle.std.proofs.Common.{◌≡◌, Bool, true, false, if◌then◌else◌, inl, ℕ, cond, ◌==◌, List, [], ◌∷◌, Option, Some, None, refl, sym, ap, subst, ◌∙◌}
 use Rattle.std.specs.Prelude.{Result, Ok, Err, OnOk, OnErr}
 use Rattle.std.specs.FinMap as fin
+use Rattle.std.specs.List.{AllByRecursion}
 use Rattle.std.specs.Option.{option_map}
 use Rattle.cache_pool.specs.Puts.{Commits, record_put}
 use Rattle.obj_model.specs.declared.reply.Reply.{Reply}
@@ -15,6 +16,7 @@ use Rattle.store_face.proofs.Later.{stays_same}
 use Rattle.store_face.specs.declared.fault.StoreFault.TheVariants.{NoMemory}
 use Rattle.tier_chron.specs.Logs.{is_opened}
 use Rattle.tier_chron.specs.declared.answer.Answer.{Answer}
+use Rattle.tier_chron.specs.declared.asked.Asked.{Asked}
 use Rattle.tier_chron.specs.declared.asked.Asked.TheVariants.{Write}
 use Rattle.tier_chron.specs.declared.entries.First.{First}
 use Rattle.tier_join.specs.declared.doubt.Doubt.{Doubt}
@@ -24,7 +26,7 @@ use Rattle.tier_rec.specs.Records.{acted_record}
 use Rattle.tier_types.specs.Flights.{lets_write}
 use Rattle.tier_types.specs.declared.record.TierRec.{TierRec}
 use Rattle.tier_view.specs.Answers.{KeepsQuietly}
-use Rattle.tier_view.specs.Calls.{IsGoing}
+use Rattle.tier_view.specs.Calls.{IsGoing, entry_of}
 use Rattle.tier_view.specs.Delivers.{IsFirstOf}
 use Rattle.tier_view.specs.Laws.{Keeps}
 use Rattle.tier_view.specs.Locals.{ActsHere, with_cache}
@@ -34,12 +36,14 @@ use Rattle.tier_view.specs.Whole.{IsWhole}
 use Rattle.tier_view.specs.declared.parts.Entry.{Entry}
 use Rattle.tier_view.specs.declared.parts.Pending.{Pending}
 use Rattle.tier_view.proofs.Answering.{quiet_is_step}
+use Rattle.tier_view.proofs.AnsweringFaults.{one_entry}
 use Rattle.tier_view.proofs.LocalFrees.{leaving_cache_keeps}
 use Rattle.tier_view.proofs.Serving.{actless_keeps}
 use Rattle.tier_core.specs.Acts.{first_for}
 use Rattle.tier_core.specs.Ends.{IsEnded}
+use Rattle.tier_core.specs.Keeps.{MayBeAsked}
 use Rattle.tier_core.specs.Serves.{Answers, IsHit, ServesWrite, answered_here, as_outcome}
-use Rattle.tier_core.specs.Writes.{Writes, acted_here}
+use Rattle.tier_core.specs.Turns.{IsTurn}
 use Rattle.tier_core.specs.declared.turns.Turn.{Turn}
 use Rattle.tier_core.proofs.ActedHere.{unput}
 use Rattle.tier_core.proofs.Unacted.{turn_asked}
@@ -103,3 +107,16 @@ unserved v turn q r (Fresh t given) none = unwritten v turn q r t given none
 unserved v turn q r (Again given) none = (refl, refl)
 unserved v turn q r (Stale kept) none = (refl, refl)
 unserved v turn q r (Worn limit) none = (refl, refl)
+
+-- ---- what was asked is within its limits
+
+find_step : (b : Bool) (d e : Entry) (o : Option Entry) → MayBeAsked d.asked → (o ≡ Some e → MayBeAsked e.asked) → cond b (Some d) o ≡ Some e → MayBeAsked e.asked
+find_step true d e o h rest k = subst (λ (x : Entry). MayBeAsked x.asked) (one_entry d e k) h
+find_step false d e o h rest k = rest k
+
+find_lawful : (es : List Entry) (n : ℕ) (e : Entry) → AllByRecursion (λ (x : Entry). MayBeAsked x.asked) es → entry_of es n ≡ Some e → MayBeAsked e.asked
+find_lawful [] n e h is = absurd (cc)
+find_lawful (d ∷ es) n e h is = find_step (d.number == n) d e (entry_of es n) h.0 (find_lawful es n e h.1) is
+
+pub asked_lawful : (v : GroupView) (turn : Turn) (a : Asked) → AllByRecursion (λ (x : Entry). MayBeAsked x.asked) v.calls.entries → IsTurn v turn a → MayBeAsked a
+asked_lawful v turn a h is = subst MayBeAsked is.asked_is (find_lawful v.calls.entries turn.call is.entry h is.is)

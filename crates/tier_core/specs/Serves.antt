@@ -48,11 +48,16 @@ with_ask (Ask.Read client name vector) = as_it_is
 
 -- ---- what may be served
 
--- A write request may be served from a record while no work on its name keeps writers out, and its
--- call has no act. A reading may always be.
+-- a write request may be served from a record while the cache is up and no work on the name keeps
+-- writers out, if its call has no act
+pub record MayWriteHere (v : GroupView) (call : ℕ) (name : List ℕ) : Type 0 where
+  pub up : v.standing.phase ≡ Up
+  pub lets : lets_write (fin.get v.traffic.flights name) ≡ true
+  pub actless : HasNoAct call v.log.acts
+
+-- what has to hold where a client's call is served: a reading needs nothing of this
 abbrev pub MayBeServed : GroupView → (call : ℕ) → Ask → Type 0
-MayBeServed v call (Ask.Write req) =
-    (lets_write (fin.get v.traffic.flights req.name) ≡ true) × HasNoAct call v.log.acts
+MayBeServed v call (Ask.Write req) = MayWriteHere v call req.name
 MayBeServed v call (Ask.Read client name vector) = Unit {0}
 
 -- The call of this turn asked for this write request and has no act, and the cache, which is up and
@@ -122,7 +127,12 @@ ServesAsk turn (Ask.Write req) held old new result =
 ServesAsk turn (Ask.Read client name vector) held old new result =
     Answers turn (looked_answer (look held.state vector)) old new result
 
--- the same, as it is told
+-- what it came to, as it is told
+abbrev pub served_as : Outcome → Served
+served_as (Ok done) = Served.Answered
+served_as (Err fault) = Served.Uncommitted fault
+
+-- the same, by what is told
 abbrev pub ServesHit : Turn → Ask → TierRec → (old new : GroupView) → Served → Type 0
 ServesHit turn ask held old new Served.Answered = ServesAsk turn ask held old new (Ok tt)
 ServesHit turn ask held old new (Served.Uncommitted fault) =

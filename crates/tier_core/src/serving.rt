@@ -2,11 +2,11 @@
 ghost use Rattle.std.specs.Prelude.{◌≡◌, true, None, Some, OnErr, OnOk};
 ghost use Rattle.std.specs.FinMap as fin;
 ghost use Rattle.obj_model.specs.States.{IsState};
-ghost use Rattle.obj_ops.specs.Acts.{act, look};
+ghost use Rattle.obj_ops.specs.Acts.{act, look, state_after};
 ghost use Rattle.obj_ops.specs.declared.request.Acted.TheVariants.{Fresh};
 ghost use Rattle.tier_chron.specs.declared.asked.Asked.TheVariants.{Read};
 ghost use Rattle.tier_core.specs.Ends.{IsEnded};
-ghost use Rattle.tier_core.specs.Serves.{Answers, IsHit, IsUnacted, MayBeServed, Serves, ServesAsk, ServesWrite, answered_here, as_outcome, asked_of, with_ask};
+ghost use Rattle.tier_core.specs.Serves.{Answers, IsHit, IsUnacted, MayBeServed, Serves, ServesAsk, ServesWrite, answered_here, as_outcome, asked_of, served_as, with_ask};
 ghost use Rattle.tier_core.specs.Turns.{IsTurn};
 ghost use Rattle.tier_join.specs.Promises.{as_it_is, with_req};
 ghost use Rattle.tier_join.specs.Steps.{HasRec};
@@ -61,6 +61,26 @@ fn as_outcome(made: Result<(), NoMemory>) -> Result<(), StoreFault>
     match made {
         Ok(()) => Ok(()),
         Err(_) => Err(StoreFault::NoMemory),
+    }
+}
+
+// The name that a client asks about.
+fn name_asked(ask: &Ask) -> &Name
+    ensures { result.now ≡ name_asked ask.now }
+{
+    match ask {
+        Ask::Write(req) => &req.name,
+        Ask::Read { name, .. } => name,
+    }
+}
+
+// What a call came to at a record.
+fn served_as(made: Result<(), StoreFault>) -> Served
+    ensures { result ≡ served_as made }
+{
+    match made {
+        Ok(()) => Served::Answered,
+        Err(fault) => Served::Uncommitted(fault),
     }
 }
 
@@ -133,5 +153,109 @@ impl<P: Store> Group<P> {
         let _calls = &self.calls;
         let req = req.copy()?;
         self.write_here(turn, req, held, state, reply)
+    }
+
+    // Serves a write request by what it does to the record's state.
+    fn serve_acted(
+        &mut self,
+        turn: Turn,
+        req: &Req,
+        held: TierRec,
+        acted: Acted,
+    ) -> Result<(), StoreFault>
+        requires live { self.old.stores.cache.live ≡ true }
+        requires hit { IsHit self.old turn req.now held }
+        requires lets { lets_write (fin.get self.old.traffic.flights req.now.name) ≡ true }
+        requires acted { acted ≡ act held.state req.now }
+        requires lawful { IsState (state_after held.state acted) }
+        ensures served { ServesWrite turn req.now held acted self.old self.new result }
+        ensures step { Keeps (with_req req.now) None self.old self.new }
+    {
+        match acted {
+            Acted::Fresh { state, reply } => self.write_fresh(turn, req, held, state, reply),
+            Acted::Again { reply } => self.answer_hit(turn, req, &held, kept_answer(reply)),
+            Acted::Stale { kept } => self.answer_hit(turn, req, &held, Answer::Stale { kept }),
+            Acted::Worn { limit } => self.answer_hit(turn, req, &held, Answer::Worn { limit }),
+        }
+    }
+
+    // Serves a write request from the record that was read of its name.
+    fn serve_write(&mut self, turn: Turn, req: &Req, held: TierRec) -> Result<(), StoreFault>
+        requires live { self.old.stores.cache.live ≡ true }
+        requires hit { IsHit self.old turn req.now held }
+        requires lets { lets_write (fin.get self.old.traffic.flights req.now.name) ≡ true }
+        requires lawful { IsState held.state }
+        ensures served { ServesWrite turn req.now held (act held.state req.now) self.old self.new
+            result }
+        ensures step { Keeps (with_req req.now) None self.old self.new }
+    {
+        // What always holds is a fact that a field brings along.
+        let _calls = &self.calls;
+        let acted = act(self.alloc, &held.state, req)?;
+        self.serve_acted(turn, req, held, acted)
+    }
+
+    // Answers a reading from the record that was read of its name.
+    fn serve_read(
+        &mut self,
+        turn: Turn,
+        client: u16,
+        name: &Name,
+        vector: &Vector,
+        held: &TierRec,
+    ) -> Result<(), StoreFault>
+        requires settled { self.old.stores.pending ≡ None }
+        requires turn { IsTurn self.old turn (Read client name.now vector.now) }
+        requires has { HasRec (joined self.old) name.now (Some held.now) }
+        ensures served { Answers turn (looked_answer (look held.now.state vector.now)) self.old
+            self.new result }
+        ensures step { Keeps as_it_is None self.old self.new }
+    {
+        // What always holds is a fact that a field brings along.
+        let _calls = &self.calls;
+        as_outcome(self.look_here(turn, client, name, vector, held))
+    }
+
+    // Serves a client's call from the record that was read of its name.
+    fn serve_held(&mut self, turn: Turn, ask: &Ask, held: TierRec) -> Result<(), StoreFault>
+        requires live { self.old.stores.cache.live ≡ true }
+        requires settled { self.old.stores.pending ≡ None }
+        requires turn { IsTurn self.old turn (asked_of ask.now) }
+        requires may { MayBeServed self.old turn.call ask.now }
+        requires has { HasRec (joined self.old) (name_asked ask.now) (Some held) }
+        requires lawful { IsState held.state }
+        ensures served { ServesAsk turn ask.now held self.old self.new result }
+        ensures step { Keeps (with_ask ask.now) None self.old self.new }
+    {
+        match ask {
+            Ask::Write(req) => self.serve_write(turn, req, held),
+            Ask::Read {
+                client,
+                name,
+                vector,
+            } => self.serve_read(turn, *client, name, vector, &held),
+        }
+    }
+
+    /// Serves a client's call in flight from the cache's record of its name. A reading is answered
+    /// from the record. A write request acts on its state: the act is committed, the record dirty,
+    /// and the call answered by the reply, in one step; one that acted before is answered its kept
+    /// reply, one that comes too late or meets a name that is worn out is told so, and these commit
+    /// nothing. A removal leaves a record too, of a state without an object.
+    ///
+    /// Without a record, or where it could not be read, nothing changes but the cache's store. All
+    /// memory is taken before the commit: where it lacks, nothing has changed behind the reading.
+    pub fn serve_here(&mut self, turn: Turn, ask: &Ask) -> Served
+        requires live { self.old.stores.cache.live ≡ true }
+        requires settled { self.old.stores.pending ≡ None }
+        requires turn { IsTurn self.old turn (asked_of ask.now) }
+        requires may { MayBeServed self.old turn.call ask.now }
+        ensures { Serves turn ask.now self.old self.new result }
+    {
+        match self.read_here(name_asked(ask)) {
+            Err(fault) => Served::Unread(fault),
+            Ok(None) => Served::Absent,
+            Ok(Some(held)) => served_as(self.serve_held(turn, ask, held)),
+        }
     }
 }

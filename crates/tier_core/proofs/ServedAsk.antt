@@ -1,0 +1,53 @@
+-- A client's call is served behind the reading of its name's record.
+use Rattle.std.proofs.Common.{◌≡◌, ℕ, true, List, Option, Some, None, sym, ap, subst, ◌∙◌}
+use Rattle.std.specs.Prelude.{Result, Ok, Err}
+use Rattle.cache_pool.specs.Reads.{IsLawful}
+use Rattle.cache_pool.specs.declared.fault.CacheFault.{CacheFault}
+use Rattle.obj_model.specs.States.{IsState}
+use Rattle.obj_model.specs.declared.req.Req.{Req}
+use Rattle.tier_chron.specs.declared.asked.Asked.{Asked}
+use Rattle.tier_join.specs.Promises.{as_it_is, with_req}
+use Rattle.tier_join.specs.Steps.{HasRec, Outcome}
+use Rattle.tier_types.specs.Flights.{name_asked}
+use Rattle.tier_types.specs.declared.flight.Ask.{Ask}
+use Rattle.tier_types.specs.declared.record.TierRec.{TierRec}
+use Rattle.tier_view.specs.Laws.{Keeps}
+use Rattle.tier_view.specs.Views.{GroupView, joined}
+use Rattle.tier_view.proofs.Serving.{actless_keeps}
+use Rattle.tier_core.specs.Reads.{ReadsHere}
+use Rattle.tier_core.specs.Serves.{IsHit, MayBeServed, Serves, ServesAsk, ServesHit, asked_of, served_as, with_ask}
+use Rattle.tier_core.specs.Turns.{IsTurn}
+use Rattle.tier_core.specs.declared.serving.Served.{Served}
+use Rattle.tier_core.specs.declared.turns.Turn.{Turn}
+use Rattle.tier_core.proofs.ServedHere.{stays_step}
+
+-- ---- behind a reading
+
+module _ (name : List ℕ) (u v : GroupView) (found : Result (Option TierRec) CacheFault) (read : ReadsHere name u v found) where
+  pub read_settled : v.stores.pending ≡ None
+  read_settled = ap (λ (x : GroupView). x.stores.pending) read.is
+
+  pub read_turn : (turn : Turn) (a : Asked) → IsTurn u turn a → IsTurn v turn a
+  read_turn turn a h = subst (λ (x : GroupView). IsTurn x turn a) (sym read.is) (record { entry = h.entry; is = h.is; turn_is = h.turn_is; asked_is = h.asked_is })
+
+  pub read_may : (call : ℕ) (ask : Ask) → MayBeServed u call ask → MayBeServed v call ask
+  read_may call (Ask.Write q) h = subst (λ (x : GroupView). MayBeServed x call (Ask.Write q)) (sym read.is) (record { up = h.up; lets = h.lets; actless = h.actless })
+  read_may call (Ask.Read client key vector) h = tt
+
+pub read_live : (name : List ℕ) (u v : GroupView) (rec : Option TierRec) → ReadsHere name u v (Ok rec) → u.stores.cache.live ≡ true → v.stores.cache.live ≡ true
+read_live name u v rec h live = h.read.2.live ∙ live
+
+-- ---- what came of it
+
+pub served_hit : (turn : Turn) (ask : Ask) (r : TierRec) (u v : GroupView) (made : Outcome) → ServesAsk turn ask r u v made → ServesHit turn ask r u v (served_as made)
+served_hit turn ask r u v (Ok done) h = h
+served_hit turn ask r u v (Err fault) h = h
+
+-- a step that acts on nothing is one of any call
+pub any_ask : (ask : Ask) (v w : GroupView) → Keeps as_it_is None v w → Keeps (with_ask ask) None v w
+any_ask (Ask.Write q) v w h = actless_keeps (with_req q) v w h
+any_ask (Ask.Read client key vector) v w h = h
+
+-- nothing came behind the reading
+pub no_step : (name : List ℕ) (u v : GroupView) (found : Result (Option TierRec) CacheFault) (ask : Ask) → ReadsHere name u v found → Keeps as_it_is None u v → Keeps (with_ask ask) None v v
+no_step name u v found ask read step = any_ask ask v v (stays_step v step.0 (read_settled name u v found read))
