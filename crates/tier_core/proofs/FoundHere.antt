@@ -1,5 +1,5 @@
 -- A cache is opened anew, and what is in doubt of it is looked for.
-use Rattle.std.proofs.Common.{◌≡◌, ◌≢◌, ◌⊎◌, inl, inr, ℕ, true, false, List, Option, Some, None, refl, sym, ap, subst, ◌∙◌, arith}
+use Rattle.std.proofs.Common.{◌≡◌, ◌≢◌, inl, inr, ℕ, true, false, List, Option, Some, None, refl, sym, ap, subst, ◌∙◌}
 use Rattle.std.specs.FinMap as fin
 use Rattle.std.specs.Prelude.{Result, Ok, Err}
 use Rattle.agent_state.specs.declared.totals.Totals.{Totals}
@@ -18,7 +18,7 @@ use Rattle.pool_survey.specs.Surveys.{AreSumsOf, Sums}
 use Rattle.pool_survey.specs.declared.fault.SurveyFault.{SurveyFault}
 use Rattle.pool_survey.specs.declared.fault.SurveyFault.TheVariants as survey
 use Rattle.store_face.proofs.Later.{stays_same}
-use Rattle.store_face.specs.Calls.{Opens, ReadFails, Reopened, Stays}
+use Rattle.store_face.specs.Calls.{Opens, Reopened, Stays}
 use Rattle.store_face.specs.Tables.{Table}
 use Rattle.store_face.specs.Views.{CrashMaps, Holds, Sound, StoreView, no_map}
 use Rattle.pool_keys.specs.Left.{IsLeftBy}
@@ -29,19 +29,18 @@ use Rattle.store_face.specs.declared.fault.StoreFault.TheVariants.{Disk, BadImag
 use Rattle.tier_chron.specs.declared.entries.Act.{Act}
 use Rattle.tier_chron.specs.declared.entries.First.{First}
 use Rattle.tier_core.proofs.LookedThere.{has_now, not_found, opening_fails, opens_stays, reopened_fails, reopened_stays}
-use Rattle.tier_core.specs.Looks.{FindsAny, FindsHere, Matches, fault_here, seq_in}
-use Rattle.tier_core.specs.Opens.{IsBadRecord, IsFound, IsOfCache, IsReopened, LooksHere, OpenFails, SumsFail}
+use Rattle.tier_core.specs.Looks.{FindsAny, FindsHere, Matches, fault_here, fault_of_sums, seq_in}
+use Rattle.tier_core.specs.Opens.{IsFound, LooksHere}
 use Rattle.tier_core.specs.declared.opening.Found.{Found}
 use Rattle.tier_core.specs.declared.opening.Found.TheVariants as found
 use Rattle.tier_core.specs.declared.opening.OpenFault.{OpenFault}
 use Rattle.tier_core.specs.declared.opening.OpenFault.TheVariants as fault
-use Rattle.tier_join.specs.Group.{HasRecordAt, ShowsIn}
+use Rattle.tier_join.specs.Group.{HasRecordAt}
 use Rattle.tier_join.specs.Steps.{Has}
 use Rattle.tier_types.specs.declared.record.TierRec.{TierRec}
 use Rattle.tier_view.specs.Starts.{pool_in}
 use Rattle.tier_view.specs.Whole.{IsElsewhere}
 use Rattle.tier_view.specs.declared.parts.Pending.{Pending}
-use Rattle.tier_core.proofs.LookedThere.{elsewhere_of}
 
 -- ---- one record
 
@@ -132,23 +131,27 @@ not_found_here p (fault.BadRecord name) a b c opens h = (reopened_stays a b c op
 not_found_here p (fault.OtherEpoch e) a b c opens h = h
 not_found_here p (fault.Sums f) a b c opens h = absurd h
 
--- a reading behind it, of either
-sums_fail : (f : SurveyFault) (a b c : StoreView) → Opens a b → Sound c → Sums b c (Err f) → IsReopened a c × SumsFail f a c
-sums_fail (survey.Store Cache f) a b c opens sound h = reopened_fails f a b c opens h
-sums_fail (survey.Store Base f) a b c opens sound h = absurd h
-sums_fail (survey.BadRecord Cache key) a b c opens sound h =
+-- the sums were not taken
+sums_fail : (p : Option Pending) (f : SurveyFault) (a b c : StoreView) → Opens a b → Sound c → Sums b c (Err f) → LooksHere p a c (Err (fault_of_sums f))
+sums_fail p (survey.Store Cache Disk) a b c opens sound h = let r = reopened_fails Disk a b c opens h in (r.0, r.1, inl r.1.1)
+sums_fail p (survey.Store Cache (BadImage at)) a b c opens sound h = absurd h
+sums_fail p (survey.Store Cache (NoSpace used need limit)) a b c opens sound h = absurd h
+sums_fail p (survey.Store Cache (Worn limit)) a b c opens sound h = absurd h
+sums_fail p (survey.Store Cache NoMemory) a b c opens sound h = (reopened_stays a b c opens h, tt)
+sums_fail p (survey.Store Base f) a b c opens sound h = absurd h
+sums_fail p (survey.BadRecord Cache key) a b c opens sound h =
     (reopened_stays a b c opens h.0, has_now b c (IsFirstWrong IsCacheEntry key) h.0.moments sound (h.0.live ∙ opens.live) h.1)
-sums_fail (survey.BadRecord Base key) a b c opens sound h = absurd h
-sums_fail (survey.Epochs held ahead) a b c opens sound h = absurd h
-sums_fail (survey.Unsound name) a b c opens sound h = absurd h
-sums_fail survey.NoMemory a b c opens sound h = (reopened_stays a b c opens h, tt)
+sums_fail p (survey.BadRecord Base key) a b c opens sound h = absurd h
+sums_fail p (survey.Epochs held ahead) a b c opens sound h = absurd h
+sums_fail p (survey.Unsound name) a b c opens sound h = absurd h
+sums_fail p survey.NoMemory a b c opens sound h = (reopened_stays a b c opens h, tt)
 
 module _ (p : Option Pending) (f : Found) (a b c d : StoreView) (opens : Opens a b) (h : FindsAny p b c (Ok f)) (sound : Sound d) where
   open_still : Opens a c
   open_still = opens_stays a b c opens h.0
 
-  pub not_summed : (e : SurveyFault) → Sums c d (Err e) → LooksHere p a d (Err (fault.Sums e))
-  not_summed e k = sums_fail e a c d open_still sound k
+  pub not_summed : (e : SurveyFault) → Sums c d (Err e) → LooksHere p a d (Err (fault_of_sums e))
+  not_summed e k = sums_fail p e a c d open_still sound k
 
   pub looked_for : (totals : Totals) → Sums c d (Ok totals) → LooksHere p a d (Ok (f, totals))
   looked_for totals k = (

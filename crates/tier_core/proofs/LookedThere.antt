@@ -1,5 +1,5 @@
 -- A base is opened anew, and what is in doubt of it is looked for.
-use Rattle.std.proofs.Common.{◌≡◌, ◌≢◌, ◌≤◌, ◌⊎◌, inl, inr, ℕ, Bool, true, false, List, [], Option, Some, None, refl, sym, ap, subst, ◌∙◌, true≢false, arith}
+use Rattle.std.proofs.Common.{◌≡◌, ◌≢◌, ◌≤◌, ◌⊎◌, inl, inr, ℕ, true, false, List, [], Option, Some, None, refl, sym, ap, subst, ◌∙◌, true≢false, arith}
 use Rattle.std.specs.FinMap as fin
 use Rattle.std.specs.Prelude.{Result, Ok, Err}
 use Rattle.pool_keys.specs.Reads.{HasNoEpoch}
@@ -16,9 +16,8 @@ use Rattle.obj_model.specs.declared.state.NameState.{NameState}
 use Rattle.pool_keys.proofs.Bases.{state_one}
 use Rattle.pool_keys.proofs.Epochs.{epoch_one}
 use Rattle.pool_keys.specs.Keys.{epoch_key, state_key}
-use Rattle.pool_keys.specs.Left.{IsLeft}
 use Rattle.store_face.proofs.Later.{stays_same}
-use Rattle.store_face.specs.Calls.{Among, Both, Closes, Opens, ReadFails, Reopened, Stays}
+use Rattle.store_face.specs.Calls.{Among, Both, Opens, ReadFails, Reopened, Stays}
 use Rattle.store_face.specs.Tables.{Table}
 use Rattle.store_face.specs.Views.{CrashMaps, Durable, Holds, Now, Sound, StoreView, no_map}
 use Rattle.store_face.specs.declared.fault.StoreFault.{StoreFault}
@@ -26,13 +25,13 @@ use Rattle.store_face.specs.declared.fault.StoreFault.TheVariants.{Disk, BadImag
 use Rattle.tier_chron.specs.declared.entries.Act.{Act}
 use Rattle.tier_chron.specs.declared.entries.First.{First}
 use Rattle.tier_core.specs.Looks.{FindsThere, HoldsEpoch, Matches, fault_there}
-use Rattle.tier_core.specs.Opens.{IsBadState, IsFound, IsOtherThan, IsReopened, LooksThere, OpenFails, epoch_found}
+use Rattle.tier_core.specs.Opens.{IsFound, IsOtherThan, IsReopened, LooksThere, OpenFails}
 use Rattle.tier_core.specs.declared.opening.Found.{Found}
 use Rattle.tier_core.specs.declared.opening.Found.TheVariants as found
 use Rattle.tier_core.specs.declared.opening.OpenFault.{OpenFault}
 use Rattle.tier_core.specs.declared.opening.OpenFault.TheVariants as fault
 use Rattle.tier_join.proofs.Left.{read_is_left}
-use Rattle.tier_join.specs.Group.{HasStateAt, ShowsIn}
+use Rattle.tier_join.specs.Group.{HasStateAt}
 use Rattle.tier_join.specs.Steps.{Has}
 use Rattle.tier_outside.proofs.Moments.{grown_none, now_same}
 use Rattle.tier_outside.specs.Causes.{Rose}

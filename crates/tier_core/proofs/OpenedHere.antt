@@ -1,5 +1,5 @@
 -- The cache of a group is opened anew.
-use Rattle.std.proofs.Common.{◌≡◌, ◌≢◌, ◌⊎◌, inl, inr, ℕ, ◌+◌, Bool, true, false, List, [], ◌∷◌, length, Option, Some, None, IsSome, refl, sym, ap, subst, ◌∙◌, true≢false, arith}
+use Rattle.std.proofs.Common.{◌≡◌, ◌≢◌, inl, inr, ℕ, ◌+◌, Bool, false, List, [], ◌∷◌, length, Option, Some, None, IsSome, refl, sym, ap, subst, ◌∙◌, true≢false, arith}
 use Rattle.std.specs.FinMap as fin
 use Rattle.std.specs.List.{AllByRecursion}
 use Rattle.std.specs.Option.{option_map}
@@ -7,9 +7,7 @@ use Rattle.std.specs.Prelude.{Result, Ok, Err}
 use Rattle.agent_state.specs.declared.totals.Totals.{Totals}
 use Rattle.base_pool.specs.Serves.{IsMsg}
 use Rattle.base_pool.specs.Views.{BaseView}
-use Rattle.obj_model.specs.declared.change.Pool.{Pool}
 use Rattle.obj_model.specs.declared.change.Pool.TheVariants.{Base, Cache}
-use Rattle.pool_survey.specs.Surveys.{AreSumsOf}
 use Rattle.store_face.specs.Views.{Sound, StoreView}
 use Rattle.store_face.specs.declared.fault.StoreFault.TheVariants.{NoMemory}
 use Rattle.tier_calls.specs.Tables.{TableView}
@@ -40,7 +38,7 @@ use Rattle.tier_view.specs.Starts.{ComesTo, fails, halts, pool_in}
 use Rattle.tier_view.specs.Stores.{doubt_in}
 use Rattle.tier_view.specs.Tables.{IsOfKind, SoundFlown}
 use Rattle.tier_view.specs.Views.{GroupView, joined}
-use Rattle.tier_view.specs.Whole.{AreSums, IsElsewhere, IsWhole}
+use Rattle.tier_view.specs.Whole.{AreSums, IsWhole}
 use Rattle.tier_view.specs.declared.parts.Entry.{Entry}
 use Rattle.tier_view.specs.declared.parts.Flown.{Flown}
 use Rattle.tier_view.specs.declared.parts.Pending.{Pending}

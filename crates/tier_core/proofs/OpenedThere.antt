@@ -1,5 +1,5 @@
 -- The base of a group is opened anew.
-use Rattle.std.proofs.Common.{◌≡◌, ◌≢◌, ◌⊎◌, inl, inr, ℕ, ◌+◌, Bool, true, false, if◌then◌else◌, length, List, Option, Some, None, refl, sym, ap, subst, ◌∙◌, true≢false, arith}
+use Rattle.std.proofs.Common.{◌≡◌, inl, inr, ◌+◌, Bool, true, false, if◌then◌else◌, length, List, Option, Some, None, refl, sym, ap, subst, ◌∙◌, true≢false, arith}
 use Rattle.std.specs.List.{AllByRecursion}
 use Rattle.std.specs.Prelude.{Result, Ok, Err}
 use Rattle.base_pool.specs.Serves.{IsMsg}
@@ -10,7 +10,6 @@ use Rattle.store_face.specs.Views.{Sound, StoreView}
 use Rattle.store_face.specs.declared.fault.StoreFault.{StoreFault}
 use Rattle.store_face.specs.declared.fault.StoreFault.TheVariants.{Disk, BadImage, NoSpace, Worn, NoMemory}
 use Rattle.tier_calls.specs.Tables.{TableView}
-use Rattle.tier_calls.specs.Turns.{HasGone}
 use Rattle.tier_chron.specs.Logs.{Log}
 use Rattle.tier_core.proofs.Kept.{seen_opened}
 use Rattle.tier_core.proofs.LookedThere.{among_same}
@@ -29,10 +28,10 @@ use Rattle.tier_view.specs.Calls.{Calls}
 use Rattle.tier_view.specs.declared.parts.Entry.{Entry}
 use Rattle.tier_view.specs.declared.parts.Flown.{Flown}
 use Rattle.tier_view.specs.declared.parts.Sent.{Sent}
-use Rattle.tier_view.specs.Starts.{ComesTo, OpensStore, fails, halts, opens, pool_in, settles}
+use Rattle.tier_view.specs.Starts.{ComesTo, fails, halts, opens, pool_in, settles}
 use Rattle.tier_view.specs.Traffic.{Traffic}
 use Rattle.tier_view.specs.Views.{GroupView}
-use Rattle.tier_view.specs.Whole.{AreSums, IsElsewhere, IsWhole}
+use Rattle.tier_view.specs.Whole.{AreSums, IsElsewhere}
 use Rattle.tier_view.specs.declared.parts.Pending.{Pending}
 use Rattle.tier_core.proofs.LookedThere.{elsewhere_of}
 use Rattle.tier_view.proofs.StartingOpenings.{opening_stores_keeps}

@@ -1,11 +1,11 @@
 -- Either pool stops.
-use Rattle.std.proofs.Common.{◌≡◌, ◌+◌, ℕ, true, List, [], ◌∷◌, suc, length, map, Option, None, refl, ap, subst, sym, ◌∙◌}
+use Rattle.std.proofs.Common.{◌≡◌, ◌+◌, ℕ, true, List, [], ◌∷◌, suc, length, map, None, refl, ap, sym, ◌∙◌}
 use Rattle.std.specs.FinMap as fin
 use Rattle.base_pool.specs.Views.{BaseView}
 use Rattle.tier_calls.specs.Tables.{TableView}
 use Rattle.tier_chron.specs.Logs.{Log}
 use Rattle.tier_core.specs.Keeps.{IsKept}
-use Rattle.tier_core.specs.Parts.{group_of, stores_of}
+use Rattle.tier_core.specs.Parts.{group_of}
 use Rattle.tier_core.specs.Steps.{IsStep}
 use Rattle.tier_core.specs.Stops.{all_gone, down}
 use Rattle.tier_core.specs.declared.parts.Agent.{Agent}
@@ -15,7 +15,6 @@ use Rattle.tier_view.specs.declared.parts.Flown.{Flown}
 use Rattle.tier_view.specs.Starts.{with_base_stopped}
 use Rattle.tier_view.specs.Stops.{gone_at, with_cache_stopped}
 use Rattle.tier_view.specs.Stores.{Stores}
-use Rattle.tier_view.specs.Traffic.{Traffic}
 use Rattle.tier_view.specs.Views.{GroupView}
 use Rattle.tier_view.proofs.StartingRests.{stopping_base_keeps}
 use Rattle.tier_view.proofs.Stopping.{stopping_cache_keeps}

@@ -1,6 +1,6 @@
 -- What the private steps of an opening promise.
 use Rattle.std.specs.Option.{option_map}
-use Rattle.std.specs.Prelude.{◌≡◌, ◌≢◌, ℕ, false, true, List, Option, Some, None, Result, Ok, Err}
+use Rattle.std.specs.Prelude.{◌≡◌, ◌≢◌, ℕ, false, true, Option, Some, Result, Ok, Err}
 use Rattle.base_pool.specs.Serves.{IsUnreadable}
 use Rattle.base_pool.specs.Views.{BaseView}
 use Rattle.base_pool.specs.declared.fault.BaseFault.{BaseFault}
@@ -8,7 +8,10 @@ use Rattle.base_pool.specs.declared.fault.BaseFault.TheVariants as base
 use Rattle.cache_pool.specs.declared.fault.CacheFault.{CacheFault}
 use Rattle.cache_pool.specs.declared.fault.CacheFault.TheVariants as cache
 use Rattle.obj_model.specs.declared.change.Pool.TheVariants.{Base, Cache}
+use Rattle.pool_survey.specs.declared.fault.SurveyFault.{SurveyFault}
+use Rattle.pool_survey.specs.declared.fault.SurveyFault.TheVariants as survey
 use Rattle.store_face.specs.Calls.{ReadFails, Stays}
+use Rattle.store_face.specs.declared.fault.StoreFault.TheVariants.{Disk}
 use Rattle.store_face.specs.Views.{StoreView}
 use Rattle.tier_core.specs.Opens.{IsBadRecord, IsFound, IsOfCache, IsOtherThan, epoch_found}
 use Rattle.tier_core.specs.declared.opening.Found.{Found}
@@ -63,6 +66,11 @@ FindsThere p kept old new (Err (fault.Sums f)) = ⊥
 abbrev pub fault_here : CacheFault → OpenFault
 fault_here (cache.Store f) = fault.Store f
 fault_here (cache.BadRecord name) = fault.BadRecord name
+
+-- why the sums were not taken, as a fault of an opening
+abbrev pub fault_of_sums : SurveyFault → OpenFault
+fault_of_sums (survey.Store pool Disk) = fault.Store Disk
+fault_of_sums f = fault.Sums f
 
 -- the `seq` of a record, if there is one
 abbrev pub seq_in : Option TierRec → Option ℕ

@@ -157,8 +157,8 @@ IsOtherThan epoch p = Unit {0}
 abbrev pub IsBadState : (name : List ℕ) → Table → Type 0
 IsBadState name t = IsUnreadable name t ⊎ ((name ≡ epoch_key) × HasNoEpoch t)
 
--- A base whose epoch is kept in memory was opened anew, and what is in doubt of it was looked for. A
--- base that is at another epoch is not live.
+-- A base whose epoch is kept in memory was opened anew, and what is in doubt of it was looked for.
+-- A base that is at another epoch is not live.
 abbrev pub LooksThere : Option Pending → (kept : ℕ) → (old new : BaseView)
     → Result Found OpenFault → Type 0
 LooksThere p kept old new (Ok f) =
@@ -225,9 +225,13 @@ abbrev pub IsOfCache : Option Pending → Type 0
 IsOfCache None = ⊥
 IsOfCache (Some p) = pool_in p ≡ Cache
 
--- why the sums over the records were not taken
+-- why the sums over the records of a live cache were not taken: no memory, or its first wrong key
 abbrev pub SumsFail : SurveyFault → (old new : StoreView) → Type 0
-SumsFail (survey.Store Cache f) old new = OpenFails f old new
+SumsFail (survey.Store Cache Disk) old new = ⊥
+SumsFail (survey.Store Cache (BadImage at)) old new = ⊥
+SumsFail (survey.Store Cache (NoSpace used need limit)) old new = ⊥
+SumsFail (survey.Store Cache (Worn limit)) old new = ⊥
+SumsFail (survey.Store Cache NoMemory) old new = Unit {0}
 SumsFail (survey.Store Base f) old new = ⊥
 SumsFail (survey.BadRecord Cache key) old new = Has new (IsFirstWrong IsCacheEntry key)
 SumsFail (survey.BadRecord Base key) old new = ⊥
@@ -265,8 +269,8 @@ abbrev pub start_halted : OpenFault → Start → Start
 start_halted (fault.Sums f) s = down s
 start_halted f s = s
 
--- What the opening of the cache comes to. With a fault what is in doubt stays so. A cache whose sums
--- were not taken counts as stopped.
+-- What the opening of the cache comes to. With a fault what is in doubt stays so. A live cache
+-- whose sums were not taken counts as stopped.
 abbrev pub CacheComesTo : (old new : GroupView) → Result (Unit {0}) OpenFault → Type 0
 CacheComesTo old new (Ok done) =
     (new.stores.cache.live ≡ true) × Has new.stores.cache (AreSumsOf new.agent.totals)

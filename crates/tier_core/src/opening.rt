@@ -20,13 +20,14 @@ use tier_view::Pending;
 /// Why a pool was not opened anew.
 #[derive(Debug, Drop)]
 pub enum OpenFault {
-    /// The pool's store failed: Disk, where it is not live; NoMemory; of the opening itself BadImage
-    /// too, and never where the store tells.
+    /// The pool's store failed: Disk, where it is not live; NoMemory; of the opening itself
+    /// BadImage too, and never where the store tells.
     Store(StoreFault),
     /// What the pool has for this name spells nothing. The name `E` stands for the epoch's own
     /// value.
     BadRecord { name: Name },
-    /// The sums over the cache's records were not taken.
+    /// The sums over the records of a live cache were not taken: there was no memory, or a key is
+    /// wrong.
     Sums(SurveyFault),
     /// The base is at this epoch, which is neither the one in memory nor the one in doubt.
     OtherEpoch { found: u64 },

@@ -46,8 +46,8 @@ fn hold_epoch<P: Store>(base: &mut Base<P>, epoch: u64) -> Result<(), OpenFault>
 // Reads the state of a name again, to which memory is the same.
 fn find_name<P: Store>(alloc: Global, base: &mut Base<P>, name: &Name) -> Result<Found, OpenFault>
     requires live { IsLive base.old }
-    ensures found { FindsThere (Some (pending.Plain pool.Base name.now)) base.old.epoch base.old base.new
-        result }
+    ensures found { FindsThere (Some (pending.Plain pool.Base name.now)) base.old.epoch base.old
+        base.new result }
     ensures sound { SoundBase base.new }
 {
     match base.state(alloc, name) {
@@ -77,7 +77,8 @@ fn find_act<P: Store>(
 // Whether the base is at the epoch in doubt, or at the one that is kept.
 fn find_epoch<P: Store>(base: &mut Base<P>, epoch: u64, kept: u64) -> Result<Found, OpenFault>
     requires live { IsLive base.old }
-    ensures found { FindsThere (Some (pending.Epoch pool.Base epoch)) kept base.old base.new result }
+    ensures found { FindsThere (Some (pending.Epoch pool.Base epoch)) kept base.old base.new
+        result }
     ensures sound { SoundBase base.new }
 {
     if base.epoch() == epoch {

@@ -3,7 +3,7 @@ ghost use Rattle.std.specs.Prelude.{◌≡◌, true, None, Some};
 ghost use Rattle.obj_model.specs.declared.change.Pool.TheVariants as pool;
 ghost use Rattle.std.specs.Prelude.{length};
 ghost use Rattle.store_face.specs.Views.{Sound};
-ghost use Rattle.tier_core.specs.Looks.{FindsAny, FindsHere, fault_here, seq_in};
+ghost use Rattle.tier_core.specs.Looks.{FindsAny, FindsHere, fault_here, fault_of_sums, seq_in};
 ghost use Rattle.tier_core.specs.Opens.{LooksHere, OpensCache, calls_halted, start_halted, stopped_here, wires_halted};
 ghost use Rattle.tier_core.specs.Steps.{IsStep};
 ghost use Rattle.tier_view.specs.Starts.{pool_in};
@@ -16,7 +16,7 @@ use crate::stopping::drop_cache;
 use agent_state::Totals;
 use cache_pool::{CacheFault, read_epoch_of, read_record};
 use obj_model::{Name, Pool};
-use pool_survey::sum_records;
+use pool_survey::{SurveyFault, sum_records};
 use std::alloc::Global;
 use store_face::{Store, StoreFault};
 use tier_calls::CallTable;
@@ -32,6 +32,20 @@ fn fault_here(fault: CacheFault) -> OpenFault
     match fault {
         CacheFault::Store(fault) => OpenFault::Store(fault),
         CacheFault::BadRecord { name } => OpenFault::BadRecord { name },
+    }
+}
+
+// Why the sums were not taken, as a fault of an opening. Where the disk failed the store is not
+// live, so nothing more is to be said of the sums.
+fn fault_of_sums(fault: SurveyFault) -> OpenFault
+    ensures { result ≡ fault_of_sums fault }
+{
+    match fault {
+        SurveyFault::Store {
+            fault: StoreFault::Disk,
+            ..
+        } => OpenFault::Store(StoreFault::Disk),
+        fault => OpenFault::Sums(fault),
     }
 }
 
@@ -145,14 +159,14 @@ fn look_here<P: Store>(
         Ok(()) => match find_here(alloc, cache, pending) {
             Err(fault) => Err(fault),
             Ok(found) => match sum_records(alloc, cache) {
-                Err(fault) => Err(OpenFault::Sums(fault)),
+                Err(fault) => Err(fault_of_sums(fault)),
                 Ok(totals) => Ok((found, totals)),
             },
         },
     }
 }
 
-// Behind this fault a cache whose sums were not taken counts as stopped.
+// Behind this fault a live cache whose sums were not taken counts as stopped.
 fn halt_here(
     fault: &OpenFault,
     alloc: Global,
@@ -180,8 +194,8 @@ impl<P: Store> Group<P> {
     /// raised, with operations that count from 1, and what is not there never was. The cache runs
     /// again.
     ///
-    /// With a fault what is in doubt stays so. Where the sums were not taken the cache counts as
-    /// stopped.
+    /// With a fault what is in doubt stays so. The cache is not live where its disk failed; where
+    /// there was no memory for the sums, or a wrong key among the records, it counts as stopped.
     pub fn open_cache(&mut self) -> Result<(), OpenFault>
         ensures opened { OpensCache self.old self.new result }
         ensures step { IsStep None self.old self.new }

@@ -1,5 +1,4 @@
 use Rattle.std.proofs.Common.{◌≡◌, true, None, length, subst, sym}
-use Rattle.base_pool.specs.Views.{BaseView}
 use Rattle.tier_view.specs.Stops.{with_cache_stopped}
 use Rattle.tier_view.specs.Stores.{Stores}
 use Rattle.tier_view.specs.Views.{GroupView}
