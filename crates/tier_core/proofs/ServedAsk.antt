@@ -1,5 +1,5 @@
 -- A client's call is served behind the reading of its name's record.
-use Rattle.std.proofs.Common.{◌≡◌, ℕ, true, List, Option, Some, None, sym, ap, subst, ◌∙◌}
+use Rattle.std.proofs.Common.{◌≡◌, ℕ, true, List, Option, Some, None, refl, sym, ap, subst, ◌∙◌}
 use Rattle.std.specs.Prelude.{Result, Ok, Err}
 use Rattle.cache_pool.specs.Reads.{IsLawful}
 use Rattle.cache_pool.specs.declared.fault.CacheFault.{CacheFault}
@@ -48,6 +48,45 @@ pub any_ask : (ask : Ask) (v w : GroupView) → Keeps as_it_is None v w → Keep
 any_ask (Ask.Write q) v w h = actless_keeps (with_req q) v w h
 any_ask (Ask.Read client key vector) v w h = h
 
--- nothing came behind the reading
-pub no_step : (name : List ℕ) (u v : GroupView) (found : Result (Option TierRec) CacheFault) (ask : Ask) → ReadsHere name u v found → Keeps as_it_is None u v → Keeps (with_ask ask) None v v
-no_step name u v found ask read step = any_ask ask v v (stays_step v step.0 (read_settled name u v found read))
+-- ---- all of it, by what was read
+
+module _ (name : List ℕ) (turn : Turn) (ask : Ask) (u v : GroupView) (is : name ≡ name_asked ask) (reading : Keeps as_it_is None u v) where
+  read_asked : (found : Result (Option TierRec) CacheFault) → ReadsHere name u v found → ReadsHere (name_asked ask) u v found
+  read_asked found read = subst (λ (k : List ℕ). ReadsHere k u v found) is read
+
+  -- nothing came behind the reading
+  no_step : (found : Result (Option TierRec) CacheFault) → ReadsHere name u v found → Keeps (with_ask ask) None v v
+  no_step found read = any_ask ask v v (stays_step v reading.0 (read_settled name u v found read))
+
+  pub unread_serves : (fault : CacheFault) → ReadsHere name u v (Err fault) → Serves turn ask u v (Served.Unread fault)
+  unread_serves fault read = record {
+    between = v;
+    found = Err fault;
+    read = read_asked (Err fault) read;
+    reading = reading;
+    served = (refl, refl);
+    step = no_step (Err fault) read;
+  }
+
+  pub absent_serves : (rec : Option TierRec) → rec ≡ None → ReadsHere name u v (Ok rec) → Serves turn ask u v Served.Absent
+  absent_serves rec none read =
+      let found : ReadsHere name u v (Ok None) = subst (λ (o : Option TierRec). ReadsHere name u v (Ok o)) none read in
+      record {
+        between = v;
+        found = Ok None;
+        read = read_asked (Ok None) found;
+        reading = reading;
+        served = (refl, refl);
+        step = no_step (Ok None) found;
+      }
+
+  pub hit_serves : (rec : Option TierRec) (held : TierRec) (w : GroupView) (made : Outcome) (result : Served) → rec ≡ Some held → result ≡ served_as made → ReadsHere name u v (Ok rec)
+      → ServesAsk turn ask held v w made → Keeps (with_ask ask) None v w → Serves turn ask u w result
+  hit_serves rec held w made result some told read served step = record {
+    between = v;
+    found = Ok (Some held);
+    read = read_asked (Ok (Some held)) (subst (λ (o : Option TierRec). ReadsHere name u v (Ok o)) some read);
+    reading = reading;
+    served = subst (λ (x : Served). ServesHit turn ask held v w x) (sym told) (served_hit turn ask held v w made served);
+    step = step;
+  }
