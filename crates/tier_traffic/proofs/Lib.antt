@@ -5,3 +5,4 @@ pub mod Values
 pub mod Waiting
 pub mod Wired
 pub mod Owned
+pub mod Counted

@@ -1,3 +1,4 @@
+pub mod Left
 pub mod Messages
 pub mod Numbered
 pub mod Places

@@ -11,6 +11,7 @@ mod begun;
 mod notes;
 mod numbered;
 mod wires;
+mod works;
 
 pub use begun::BegunAt;
 pub use wires::Wires;

@@ -8,6 +8,7 @@ ghost use Rattle.tier_flight.specs.Joins.{IsJoinedIn, MayJoin};
 ghost use Rattle.tier_flight.specs.Numbers.{IsIdle, IsNewBy, IsSingle, has_call, has_opid};
 ghost use Rattle.tier_view.specs.Changes.{unawaited, unnoted, without_message, without_reply};
 ghost use Rattle.tier_view.specs.Delivers.{replied_now};
+ghost use Rattle.tier_traffic.specs.Left.{left_writes};
 ghost use Rattle.tier_traffic.specs.Messages.{is_owned, replied_of, sent_for, sent_now, sent_of};
 ghost use Rattle.tier_traffic.specs.Waits.{awaited_of, awaiting, beginning, begun_of, noted_of, noting, without_begun};
 ghost use Rattle.tier_traffic.specs.Wires.{carrying, with_flights};
@@ -17,6 +18,7 @@ use crate::awaits::Awaits;
 use crate::begun::BegunFlushes;
 use crate::notes::Notes;
 use crate::numbered::Numbered;
+use crate::works::Works;
 use copy_chunk::{Added, Chunk};
 use obj_model::{Name, NoMemory};
 use std::alloc::Global;
@@ -32,7 +34,7 @@ use tier_view::{Begun, Noted, Owner, Replied, Sent};
 /// message (`message_room`) and for the next reply (`reply_room`).
 #[derive(Drop)]
 pub struct Wires {
-    flights: Flights,
+    works: Works,
     begun: BegunFlushes,
     messages: Numbered<Sent>,
     replies: Numbered<Replied>,
@@ -52,7 +54,7 @@ impl Model for Wires {
 
     ghost view = { λ w. record {
       traffic = record {
-        flights = w.flights;
+        flights = w.works;
         begun = w.begun;
         messages = values_of w.messages.held;
         replies = values_of w.replies.held;
@@ -89,7 +91,7 @@ impl Wires {
         } }
     {
         Wires {
-            flights: Flights::new(alloc),
+            works: Works::new(alloc),
             begun: BegunFlushes::new(alloc),
             messages: Numbered::new(alloc),
             replies: Numbered::new(alloc),
@@ -102,11 +104,19 @@ impl Wires {
     pub fn flights(&self) -> &Flights
         ensures { result.now ≡ self.now.traffic.flights }
     {
-        &self.flights
+        self.works.flights()
+    }
+
+    /// How many write requests are left. It is a running count.
+    pub fn left_writes(&self) -> u64
+        ensures { result ≡ left_writes self.now.traffic.flights }
+    {
+        self.works.left_writes()
     }
 
     /// Puts work on a name that has none, or a read behind the reads that it has. Its operation and
-    /// its call are new here. Without memory nothing changes.
+    /// its call are new here. Without memory, or when write requests are counted no further,
+    /// nothing changes.
     pub fn add(&mut self, name: Name, work: Flight) -> Result<(), NoMemory>
         requires place { MayJoin (fin.get self.old.traffic.flights name) work }
         requires single { IsSingle work }
@@ -117,7 +127,7 @@ impl Wires {
         ensures frame { self.new ≡ with_flights self.new.traffic.flights self.old }
         ensures refused { OnErr result (self.new ≡ self.old) }
     {
-        self.flights.add(name, work)
+        self.works.add(name, work)
     }
 
     /// Lets a call wait from now on for a write request that is left, or for a flush that was begun
@@ -130,7 +140,7 @@ impl Wires {
         ensures frame { self.new ≡ with_flights self.new.traffic.flights self.old }
         ensures refused { OnErr result (self.new ≡ self.old) }
     {
-        self.flights.take_over(name, call)
+        self.works.take_over(name, call)
     }
 
     /// Gives a chunk to the promotion on a name. Without memory nothing changes.
@@ -141,7 +151,7 @@ impl Wires {
         ensures frame { self.new ≡ with_flights self.new.traffic.flights self.old }
         ensures refused { OnErr result (self.new ≡ self.old) }
     {
-        self.flights.feed(name, chunk)
+        self.works.feed(name, chunk)
     }
 
     /// Takes the work on a name out, and answers it. It takes no memory.
@@ -150,7 +160,7 @@ impl Wires {
         ensures taken { self.new ≡
             with_flights (fin.remove self.old.traffic.flights name.now) self.old }
     {
-        self.flights.remove(name)
+        self.works.remove(name)
     }
 
     /// Takes a call that ends out of all work: its promotion, its read and its flush are dropped,
@@ -160,7 +170,7 @@ impl Wires {
         ensures dropped { IsDroppedIn call self.old.traffic.flights self.new.traffic.flights }
         ensures frame { self.new ≡ with_flights self.new.traffic.flights self.old }
     {
-        self.flights.drop_call(call);
+        self.works.drop_call(call);
     }
 
     /// Drops all work. Messages and replies, what calls await and have noted, and flushes that were
@@ -168,7 +178,7 @@ impl Wires {
     pub fn drop_work(&mut self, alloc: Global)
         ensures { self.new ≡ with_flights fin.empty self.old }
     {
-        self.flights = Flights::new(alloc);
+        self.works = Works::new(alloc);
     }
 
     /// Takes memory for the next message. Without it, or when all numbers of messages were given,

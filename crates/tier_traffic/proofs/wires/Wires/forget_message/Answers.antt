@@ -16,7 +16,7 @@ invariant_of-self c = (
 
 pub returns : goal.returns
 returns c =
-    message_out c.self.inside.flights c.self.inside.begun c.self.inside.messages c.remove.new.self c.self.inside.replies
+    message_out c.self.inside.works c.self.inside.begun c.self.inside.messages c.remove.new.self c.self.inside.replies
     c.self.inside.awaited c.self.inside.noted c.args.number
     c.self.invariant.0 c.remove.ensures
     ∙ ap (λ (w : WiresView). carrying (without_message c.args.number w.traffic) w) c.self.view_is

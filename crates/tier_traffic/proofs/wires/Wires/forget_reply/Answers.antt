@@ -16,7 +16,7 @@ invariant_of-self c = (
 
 pub returns : goal.returns
 returns c =
-    reply_out c.self.inside.flights c.self.inside.begun c.self.inside.messages c.self.inside.replies c.remove.new.self
+    reply_out c.self.inside.works c.self.inside.begun c.self.inside.messages c.self.inside.replies c.remove.new.self
     c.self.inside.awaited c.self.inside.noted c.args.number
     c.self.invariant.1 c.remove.ensures
     ∙ ap (λ (w : WiresView). carrying (without_reply c.args.number w.traffic) w) c.self.view_is
