@@ -31,3 +31,4 @@ pub mod ServedHere
 pub mod FoundHere
 pub mod OpenedHere
 pub mod ServedAsk
+pub mod Lacked

@@ -28,5 +28,6 @@ pub mod Fences
 -- how a write request goes to the base, and lands
 pub mod Proxies
 pub mod Lands
+pub mod Lacks
 -- how a call is turned away
 pub mod Blocks

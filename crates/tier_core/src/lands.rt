@@ -95,8 +95,8 @@ fn driven_by(flight: &Flight) -> Option<(u64, u64)>
     }
 }
 
-// The same of the work on a name, if there is any.
-fn driven_on(flights: &Flights, name: &Name) -> Option<(u64, u64)>
+/// The calls that drive and own the write request that is the work on a name, if a call drives one.
+pub(crate) fn driven_on(flights: &Flights, name: &Name) -> Option<(u64, u64)>
     ensures { result ≡ driven_on (fin.get flights.now name.now) }
 {
     match flights.get(name) {
@@ -150,8 +150,8 @@ fn turn_in(call: u64, entry: Option<&Entry>) -> Option<Turn>
     }
 }
 
-// The same from what it asked, its line and its begin.
-fn turn_by(call: u64, asked: &Asked, line: Option<u32>, begin: u64) -> Option<Turn>
+/// The same from what it asked, its line and its begin.
+pub(crate) fn turn_by(call: u64, asked: &Asked, line: Option<u32>, begin: u64) -> Option<Turn>
     ensures { result ≡ turn_by call asked.now line begin }
 {
     match asked {
@@ -164,12 +164,12 @@ fn turn_by(call: u64, asked: &Asked, line: Option<u32>, begin: u64) -> Option<Tu
     }
 }
 
-// The turn of the owner of a write request, where it drives it and asked a write request.
-fn owner_turn(calls: &CallTable, told: &Told) -> Option<Turn>
-    ensures { result ≡ owner_turn told.now.driver told.now.owner calls.now.calls.entries }
+/// The turn of the owner of a write request, where it drives it and asked a write request.
+pub(crate) fn owner_turn(calls: &CallTable, driver: u64, owner: u64) -> Option<Turn>
+    ensures { result ≡ owner_turn driver owner calls.now.calls.entries }
 {
-    if told.driver == told.owner {
-        turn_in(told.owner, calls.get(told.owner))
+    if driver == owner {
+        turn_in(owner, calls.get(owner))
     } else {
         None
     }
@@ -294,7 +294,7 @@ fn land(
     ensures { LandsParts told number history.old.log history.new.log calls.old calls.new wires.old
         wires.new result }
 {
-    let turn = owner_turn(calls, &told);
+    let turn = owner_turn(calls, told.driver, told.owner);
     let now = history.answers().len() as u64;
     land_work(calls, wires, number, &told, now);
     match turn {

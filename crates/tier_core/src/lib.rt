@@ -16,6 +16,8 @@ mod ends;
 mod entering;
 mod fencing;
 mod group;
+mod lacking;
+mod lacks;
 mod landing;
 mod lands;
 mod looking;
