@@ -22,8 +22,8 @@ fn is_others(calls: &CallTable, opid: u64, call: u64) -> bool
     }
 }
 
-// Whether a call began nothing yet.
-fn is_fresh(history: &History, wires: &Wires, call: u64) -> bool
+/// Whether a call began nothing yet.
+pub(crate) fn is_fresh(history: &History, wires: &Wires, call: u64) -> bool
     ensures { IsTrue result ↔ IsFresh history.now.log wires.now.traffic call }
 {
     match wires.flights().by_call(call) {

@@ -35,6 +35,7 @@ mod serving;
 mod stakes;
 mod stopping;
 mod turns;
+mod working;
 mod writing;
 
 pub use attaching::{AttachFault, Setup};
