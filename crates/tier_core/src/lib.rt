@@ -26,6 +26,7 @@ mod observing;
 mod opening;
 mod opening_base;
 mod opening_cache;
+mod parting;
 mod parts;
 mod proxying;
 mod raising;

@@ -1,15 +1,26 @@
 //! What can be told of a group without a change.
 ghost use Rattle.std.specs.Option.{option_copied};
-ghost use Rattle.std.specs.Prelude.{◌≡◌, ◌↔◌, None, IsSome, IsTrue, MatchBool};
-ghost use Rattle.tier_view.specs.Whole.{IsReady};
+ghost use Rattle.std.specs.Prelude.{◌≡◌, ◌↔◌, None, IsSome, IsTrue, MatchBool, option_map};
+ghost use Rattle.tier_core.specs.Steps.{IsStep};
+ghost use Rattle.tier_traffic.specs.Messages.{replied_of, sent_of};
+ghost use Rattle.tier_view.specs.Starts.{pool_in};
+ghost use Rattle.tier_view.specs.Whole.{IsReady, IsWhole};
 
 use crate::Group;
+use crate::opening::pool_of;
+use obj_model::Pool;
+use std::alloc::Global;
 use store_face::Store;
 use tier_chron::History;
 use tier_types::Phase;
-use tier_view::KeptFence;
+use tier_view::{KeptFence, Replied, Sent};
 
 impl<P: Store> Group<P> {
+    /// What it takes memory from.
+    pub fn alloc(&self) -> Global {
+        self.alloc
+    }
+
     /// What happened in the group.
     pub fn history(&self) -> &History
         ensures { result.now.log ≡ self.now.log }
@@ -43,6 +54,20 @@ impl<P: Store> Group<P> {
         ensures { option_copied result ≡ self.now.standing.kept }
     {
         self.start.kept.as_ref()
+    }
+
+    /// The message of this number, if it may still reach the base.
+    pub fn message(&self, number: u64) -> Option<&Sent>
+        ensures { option_copied result ≡ sent_of self.now.traffic.messages number }
+    {
+        self.wires.message(number)
+    }
+
+    /// The reply of this number, if it may still be received.
+    pub fn reply(&self, number: u64) -> Option<&Replied>
+        ensures { option_copied result ≡ replied_of self.now.traffic.replies number }
+    {
+        self.wires.reply_of(number)
     }
 
     /// Whether the cache's store can be read and changed.
@@ -81,6 +106,16 @@ impl<P: Store> Group<P> {
         self.pending.is_some()
     }
 
+    /// The pool of that commit, if there is one.
+    pub fn doubt_pool(&self) -> Option<Pool>
+        ensures { result ≡ option_map pool_in self.now.stores.pending }
+    {
+        match &self.pending {
+            Some(pending) => Some(pool_of(pending)),
+            None => None,
+        }
+    }
+
     /// Whether calls are served: both stores are live and were not stopped, no commit is in doubt,
     /// and the base told the epoch that the cache was raised to, since the last stop of either.
     pub fn is_ready(&self) -> bool
@@ -90,5 +125,16 @@ impl<P: Store> Group<P> {
         let runs = !self.cache_stopped && !self.base_stopped && self.pending.is_none();
         let up = matches!(&self.start.phase, Phase::Up) && self.start.fenced;
         live && runs && up
+    }
+
+    /// What always holds of a group holds of this one, and leaving it as it is is a step.
+    pub fn rest(&self)
+        ensures whole { IsWhole self.now }
+        ensures step { IsStep None self.now self.now }
+    {
+        let Group {
+            pending: _pending,
+            ..
+        } = self;
     }
 }
