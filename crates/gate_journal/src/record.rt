@@ -27,8 +27,8 @@ pub fn record_buffer(alloc: Global, size: usize) -> Result<Vec<u8>, AllocError>
     Ok(buffer)
 }
 
-// What is written behind the gate of a record: its length, its payload and a closed gate. It is made
-// where the payload stands, behind the place of its length.
+// What is written behind the gate of a record: its length, its payload and a closed gate. It is
+// made where the payload stands, behind the place of its length.
 #[tactic(auto, using(crate::proofs::Bodies::sealed_is))]
 fn sealed(buffer: Vec<u8>) -> Result<Vec<u8>, AllocError>
     requires place { 4 ≤ length buffer.items }

@@ -1,5 +1,6 @@
 //! The store: its map in memory, which the journal on its disk makes.
-ghost use Rattle.std.specs.Prelude.{◌≡◌, ◌≤◌, ◌<◌, ◌+◌, ◌++◌, ◌∷◌, [], true, map, length, drop, vec_len, vec_capacity, IfOk, IfErr};
+ghost use Rattle.std.specs.Prelude.{◌≡◌, ◌≤◌, ◌<◌, ◌+◌, ◌++◌, ◌∷◌, [], true, map, vec_len, vec_capacity, IfOk, IfErr};
+ghost use Rattle.std.specs.Prelude.{length, drop};
 ghost use Rattle.std.specs.Option.{option_copied};
 ghost use Rattle.tier_outside.specs.Causes.{Rose};
 ghost use Rattle.tier_outside.specs.Disk.{IsImage};

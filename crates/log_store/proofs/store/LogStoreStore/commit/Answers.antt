@@ -1,4 +1,5 @@
-use Rattle.std.proofs.Common.{Err, drop, ◌∙◌, ◌≡◌, ◌+◌, ℕ, arith, refl, sym, ap, ap₂, subst, length, map, true, false, List, [], ◌∷◌, ◌++◌}
+use Rattle.std.proofs.Common.{Err, drop}
+use Rattle.std.proofs.Common.{◌∙◌, ◌≡◌, ◌+◌, ℕ, arith, refl, sym, ap, ap₂, subst, length, map, true, false, List, [], ◌∷◌, ◌++◌}
 use Rattle.obj_model.specs.declared.change.Change.{Change}
 use Rattle.tier_outside.proofs.Moments.{last_push}
 use Rattle.std.proofs.Math.Path.{subst₂}
@@ -19,7 +20,8 @@ use Rattle.log_store.proofs.Commits.{Adds, any_moment, committed, not_committed,
 use Rattle.log_store.proofs.store.LogStoreStore.commit.Goals as goal
 
 pub returns-in_err-buffer-clause-sound : goal.returns-in_err-buffer-clause-sound
-returns-in_err-buffer-clause-sound g c = sound_as c.args.self.now _ _ _ _ _ _ _ _ c.self.view_is c.self.invariant
+returns-in_err-buffer-clause-sound g c =
+    sound_as c.args.self.now _ _ _ _ _ _ _ _ c.self.view_is c.self.invariant
 
 pub of_buffer-requires-clause-size : goal.of_buffer-requires-clause-size
 of_buffer-requires-clause-size g c =
@@ -38,8 +40,15 @@ returns-in-Err-clause-committed g c =
     let spells : SpellsTxn payload cs =
     subst (SpellsTxn payload) c.as_slice.ensures.value c.in_ok-buffer.ensures.spelled in
     let size : length c.in_ok-buffer.buffer.items + 1 ≡ length payload + 5 =
-    omega (arith, (c.in_ok-buffer.ensures.size ∙ ap record_size c.as_slice.ensures.value), payload_size payload cs spells) in
-    refused (List ℕ) c.args.self.now c.in-Err.fault (g.D.Disk.moments s.disk) (g.D.Disk.faults s.disk) s.live s.role s.pair s.journal.end (s.journal.next + 1) (map crash_of s.past.items)
+    omega (
+      arith,
+      c.in_ok-buffer.ensures.size,
+      ap record_size c.as_slice.ensures.value,
+      payload_size payload cs spells,
+    ) in
+    refused (List ℕ) c.args.self.now c.in-Err.fault (g.D.Disk.moments s.disk)
+    (g.D.Disk.faults s.disk) s.live s.role s.pair s.journal.end (s.journal.next + 1)
+    (map crash_of s.past.items)
     payload cs c.self.view_is spells
     (subst (λ n. AddEnds {T = List ℕ} (s.journal.next + 1) n s.journal.end (Unit {0}) ⊥
     (Err c.in-Err.fault)) size c.in-Err.ensures.answer)
@@ -81,7 +90,12 @@ invariant_of-self-in-Ok-add g c =
     subst₂ SpellsTxn (sym c.in-Ok.ensures.payload) c.as_slice.ensures.value
     c.in_ok-buffer.ensures.spelled in
     let size : c.len.result + 1 ≡ record_size cs =
-    omega (arith, c.len.ensures, (c.in_ok-buffer.ensures.size ∙ ap record_size c.as_slice.ensures.value)) in
+    omega (
+      arith,
+      c.len.ensures,
+      c.in_ok-buffer.ensures.size,
+      ap record_size c.as_slice.ensures.value,
+    ) in
     let ready : c.prepare.new.self.ready ≡ cs = c.in_ok-prepare-in-Ok.ensures.ready in
     let pushed : map crash_of c.change.new.past.items ≡ map crash_of s.past.items ++ torn cs (held s.journal t) ∷ [] =
     pushed_is (map crash_of s.past.items) (map crash_of c.reserve.new.self.items) (map crash_of c.change.new.past.items) t c.prepare.new.self.table cs c.prepare.new.self.ready _ _
@@ -95,7 +109,7 @@ invariant_of-self-in-Ok-add g c =
     ∙ ap₂ (λ (x : PoolView) (n : ℕ). alone (record { table = x.table; used = n })) changes place in
     whole_after s.role s.pair s.journal c.add.new.journal c.change.new.pool s.live (g.D.Disk.moments s.disk) (g.D.Disk.moments c.add.new.disk)
     (Adds s.journal c.in-Ok.more) (map crash_of c.settle.new.past.items) t c.in-Ok.more cs c.self.invariant.journal_is c.in-Ok-add.ensures.moved
-    (omega (arith, c.in-Ok.ensures.answer, (c.in_ok-buffer.ensures.size ∙ ap record_size c.as_slice.ensures.value), payload_size c.in-Ok.more cs spells)) changes (c.self.invariant.stands lives) spells c.in-Ok-add.ensures.any_moment c.in-Ok-add.ensures.stands now
+    (omega (arith, c.in-Ok.ensures.answer, size, c.len.ensures, payload_size c.in-Ok.more cs spells)) changes (c.self.invariant.stands lives) spells c.in-Ok-add.ensures.any_moment c.in-Ok-add.ensures.stands now
 
 pub returns-in-Ok-add-clause-committed : goal.returns-in-Ok-add-clause-committed
 returns-in-Ok-add-clause-committed g c =
@@ -107,7 +121,12 @@ returns-in-Ok-add-clause-committed g c =
     subst₂ SpellsTxn (sym c.in-Ok.ensures.payload) c.as_slice.ensures.value
     c.in_ok-buffer.ensures.spelled in
     let size : c.len.result + 1 ≡ record_size cs =
-    omega (arith, c.len.ensures, (c.in_ok-buffer.ensures.size ∙ ap record_size c.as_slice.ensures.value)) in
+    omega (
+      arith,
+      c.len.ensures,
+      c.in_ok-buffer.ensures.size,
+      ap record_size c.as_slice.ensures.value,
+    ) in
     let ready : c.prepare.new.self.ready ≡ cs = c.in_ok-prepare-in-Ok.ensures.ready in
     let pushed : map crash_of c.change.new.past.items ≡ map crash_of s.past.items ++ torn cs (held s.journal t) ∷ [] =
     pushed_is (map crash_of s.past.items) (map crash_of c.reserve.new.self.items) (map crash_of c.change.new.past.items) t c.prepare.new.self.table cs c.prepare.new.self.ready _ _
@@ -120,7 +139,7 @@ returns-in-Ok-add-clause-committed g c =
     (map crash_of c.change.new.past.items) (map crash_of c.settle.new.past.items) (held s.journal t) cs s.live s.live (g.D.Disk.faults s.disk) (g.D.Disk.faults c.add.new.disk)
     s.journal.end c.add.new.journal.end (s.journal.next + 1) (c.add.new.journal.next + 1)
     (ap store_of c.self.view_is) c.in-Ok-add.ensures.any_moment (c.self.invariant.one lives) pushed again lives c.in-Ok-add.ensures.cause.later
-    (omega (arith, payload_size c.in-Ok.more cs spells, c.in-Ok.ensures.answer, (c.in_ok-buffer.ensures.size ∙ ap record_size c.as_slice.ensures.value))) (ap (λ (j : Journal). j.end) c.in-Ok-add.ensures.moved)
+    (omega (arith, payload_size c.in-Ok.more cs spells, c.in-Ok.ensures.answer, size, c.len.ensures)) (ap (λ (j : Journal). j.end) c.in-Ok-add.ensures.moved)
     (omega (arith, payload_size c.in-Ok.more cs spells, ap (λ (j : Journal). j.next) c.in-Ok-add.ensures.moved))
 
 pub returns-in-Ok-add-clause-sound : goal.returns-in-Ok-add-clause-sound
@@ -150,7 +169,12 @@ invariant_of-self-in-Err-add g c =
     subst₂ SpellsTxn (sym c.in-Ok.ensures.payload) c.as_slice.ensures.value
     c.in_ok-buffer.ensures.spelled in
     let size : c.len.result + 1 ≡ record_size cs =
-    omega (arith, c.len.ensures, (c.in_ok-buffer.ensures.size ∙ ap record_size c.as_slice.ensures.value)) in
+    omega (
+      arith,
+      c.len.ensures,
+      c.in_ok-buffer.ensures.size,
+      ap record_size c.as_slice.ensures.value,
+    ) in
     let ready : c.prepare.new.self.ready ≡ cs = c.in_ok-prepare-in-Ok.ensures.ready in
     let pushed : map crash_of c.change-in-Err-add.new.past.items ≡ map crash_of s.past.items ++ torn cs (held s.journal t) ∷ [] =
     pushed_is (map crash_of s.past.items) (map crash_of c.reserve.new.self.items) (map crash_of c.change-in-Err-add.new.past.items) t c.prepare.new.self.table cs c.prepare.new.self.ready _ _
@@ -172,7 +196,12 @@ returns-in-Err-add-clause-committed g c =
     subst₂ SpellsTxn (sym c.in-Ok.ensures.payload) c.as_slice.ensures.value
     c.in_ok-buffer.ensures.spelled in
     let size : c.len.result + 1 ≡ record_size cs =
-    omega (arith, c.len.ensures, (c.in_ok-buffer.ensures.size ∙ ap record_size c.as_slice.ensures.value)) in
+    omega (
+      arith,
+      c.len.ensures,
+      c.in_ok-buffer.ensures.size,
+      ap record_size c.as_slice.ensures.value,
+    ) in
     let ready : c.prepare.new.self.ready ≡ cs = c.in_ok-prepare-in-Ok.ensures.ready in
     let pushed : map crash_of c.change-in-Err-add.new.past.items ≡ map crash_of s.past.items ++ torn cs (held s.journal t) ∷ [] =
     pushed_is (map crash_of s.past.items) (map crash_of c.reserve.new.self.items) (map crash_of c.change-in-Err-add.new.past.items) t c.prepare.new.self.table cs c.prepare.new.self.ready _ _
@@ -183,7 +212,7 @@ returns-in-Err-add-clause-committed g c =
     (map crash_of c.change-in-Err-add.new.past.items) (held s.journal t) cs s.live false (g.D.Disk.faults s.disk) (g.D.Disk.faults c.add.new.disk)
     s.journal.end c.add.new.journal.end (s.journal.next + 1) (c.add.new.journal.next + 1)
     (ap store_of c.self.view_is) c.in-Err-add.ensures.any_moment (c.self.invariant.one lives) pushed refl c.in-Err-add.ensures.cause.failed c.in-Err-add.ensures.cause.later
-    (omega (arith, payload_size c.in-Ok.more cs spells, c.in-Ok.ensures.answer, (c.in_ok-buffer.ensures.size ∙ ap record_size c.as_slice.ensures.value))) (ap (λ (j : Journal). j.end) c.in-Err-add.ensures.kept)
+    (omega (arith, payload_size c.in-Ok.more cs spells, c.in-Ok.ensures.answer, size, c.len.ensures)) (ap (λ (j : Journal). j.end) c.in-Err-add.ensures.kept)
     (omega (arith, ap (λ (j : Journal). j.next) c.in-Err-add.ensures.kept))
 
 pub returns-in-Err-add-clause-any_moment : goal.returns-in-Err-add-clause-any_moment
