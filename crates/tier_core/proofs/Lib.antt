@@ -18,6 +18,7 @@ pub mod Raised
 pub mod Fenced
 pub mod Lost
 pub mod LookedThere
+pub mod OtherEpochs
 pub mod OpenedThere
 pub mod Resting
 pub mod Flies

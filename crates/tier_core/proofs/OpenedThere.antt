@@ -12,6 +12,7 @@ use Rattle.store_face.specs.declared.fault.StoreFault.TheVariants.{Disk, BadImag
 use Rattle.tier_calls.specs.Tables.{TableView}
 use Rattle.tier_chron.specs.Logs.{Log}
 use Rattle.tier_core.proofs.Kept.{seen_opened}
+use Rattle.tier_core.proofs.OtherEpochs.{tells_no_other}
 use Rattle.tier_core.proofs.LookedThere.{among_same}
 use Rattle.tier_core.specs.Keeps.{IsKept, MayBeAsked}
 use Rattle.tier_core.specs.Opens.{BaseComesTo, IsFound, IsReopened, LooksThere, MaySettle, OpenFails, OpensBase, RunsAgain, epoch_found, halted_there, log_settled, pending_settled, start_settled, stopped_there, table_settled}
@@ -210,7 +211,7 @@ module _ (cache : StoreView) (b new : BaseView) (cs bs : Bool) (p : Option Pendi
     base_fails (fault.OtherEpoch e) k =
         opened (Failed (fault.OtherEpoch e)) (Err (fault.OtherEpoch e)) table (seen_reopened b new k.0) refl refl
         (λ known. h.whole.totals (record { live = known.live; runs = known.runs; sure = known.sure }))
-        (halts refl) (refl, seen_shut new k.1, k.2, k.3, k.4)
+        (halts refl) (refl, seen_shut new k.1, k.2, k.3, k.4, tells_no_other Old (seen_base new) e h.whole (seen_reopened b new k.0).among k.2 k.3 k.4)
         (λ live. absurd (true≢false (sym live.opened ∙ k.1))) h.counted refl refl
     base_fails (fault.Sums f) k = absurd k
 

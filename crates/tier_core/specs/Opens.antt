@@ -30,14 +30,14 @@ use Rattle.tier_core.specs.declared.opening.Found.TheVariants as found
 use Rattle.tier_core.specs.declared.opening.OpenFault.{OpenFault}
 use Rattle.tier_core.specs.declared.opening.OpenFault.TheVariants as fault
 use Rattle.tier_core.specs.declared.parts.Start.{Start}
-use Rattle.tier_join.specs.Group.{ShowsIn}
+use Rattle.tier_join.specs.Group.{BothTell, ShowsIn}
 use Rattle.tier_join.specs.Steps.{Has}
 use Rattle.tier_outside.specs.Causes.{Rose}
 use Rattle.tier_traffic.specs.Wires.{WiresView, with_flights}
 use Rattle.tier_types.specs.declared.phase.Phase.TheVariants.{Raised}
 use Rattle.tier_types.specs.declared.record.TierRec.{TierRec}
 use Rattle.tier_view.specs.Starts.{IsSettledBy, halted, opened_anew, pool_in, unopened}
-use Rattle.tier_view.specs.Views.{GroupView}
+use Rattle.tier_view.specs.Views.{GroupView, joined}
 use Rattle.tier_view.specs.declared.parts.Flown.{Flown}
 use Rattle.tier_view.specs.declared.parts.Pending.{Pending}
 
@@ -194,7 +194,8 @@ RunsAgain pool (Some p) s totals old new =
     ⊎ (pool_in p ≡ pool) × IsSettledBy p s totals old new
 
 -- What the opening of the base comes to. With a fault what is in doubt stays so. A base at an epoch
--- that is neither the one in memory nor the one in doubt counts as stopped.
+-- that is neither the one in memory nor the one in doubt counts as stopped; where both stores tell
+-- there is none.
 abbrev pub BaseComesTo : (old new : GroupView) → Result (Unit {0}) OpenFault → Type 0
 BaseComesTo old new (Ok done) =
     (new.stores.base.live ≡ true)
@@ -206,7 +207,7 @@ BaseComesTo old new (Err (fault.BadRecord name)) =
 BaseComesTo old new (Err (fault.OtherEpoch e)) =
     (new ≡ halted Base new.stores.base old) × (new.stores.base.live ≡ false)
     × Has new.stores.base (IsAtEpoch e) × (e ≢ old.standing.base_epoch)
-    × IsOtherThan e old.stores.pending
+    × IsOtherThan e old.stores.pending × (BothTell (joined old) → ⊥)
 BaseComesTo old new (Err (fault.Sums f)) = ⊥
 
 -- the base was opened anew, or why it was not

@@ -29,7 +29,8 @@ pub enum OpenFault {
     /// The sums over the records of a live cache were not taken: there was no memory, or a key is
     /// wrong.
     Sums(SurveyFault),
-    /// The base is at this epoch, which is neither the one in memory nor the one in doubt.
+    /// The base is at this epoch, which is neither the one in memory nor the one in doubt. It never
+    /// comes where both stores tell.
     OtherEpoch { found: u64 },
 }
 
