@@ -1,20 +1,19 @@
 -- What was read under a key.
-use Rattle.std.proofs.Common.{◌≡◌, ◌≤◌, ℕ, Bool, List, [], Option, None, Some, Ok, Err, refl, sym, ap, subst, ◌∙◌, arith}
+use Rattle.std.proofs.Common.{◌≡◌, ℕ, Bool, List, Option, None, Some, Ok, Err, refl, sym, ap, subst, ◌∙◌}
 use Rattle.std.specs.FinMap as fin
 use Rattle.tier_outside.proofs.Moments.{now_weaker}
 use Rattle.copy_chunk.proofs.Lawful.{first_lawful}
-use Rattle.obj_model.specs.Names.{name_cmp}
-use Rattle.obj_model.specs.States.{IsState, unknown}
+use Rattle.obj_model.specs.States.{unknown}
 use Rattle.obj_model.specs.declared.state.NameState.{NameState}
 use Rattle.rec_codec.specs.Spelling.{SpellsState}
 use Rattle.pool_keys.specs.Keys.{state_key}
 use Rattle.pool_keys.specs.Values.{IsStateOf}
-use Rattle.store_face.specs.Calls.{Got, Stays}
+use Rattle.store_face.specs.Calls.{Got}
 use Rattle.store_face.specs.Tables.{Table}
 use Rattle.store_face.specs.Views.{Holds, StoreView, no_map}
 use Rattle.store_face.specs.declared.fault.StoreFault.{StoreFault}
 use Rattle.store_face.specs.declared.fault.StoreFault.TheVariants as store
-use Rattle.base_pool.specs.Opens.{HasSeq, IsSeqOf, ReadsSeq}
+use Rattle.base_pool.specs.Opens.{IsSeqOf, ReadsSeq}
 use Rattle.base_pool.specs.Serves.{IsUnreadable}
 use Rattle.base_pool.specs.Steps.{Finds, FindsValue, IsValueOf, base_of}
 use Rattle.base_pool.specs.declared.fault.BaseFault.{BaseFault}

@@ -1,5 +1,5 @@
 -- What attaching a base, opening it anew, and reading a state do.
-use Rattle.std.specs.Prelude.{◌≡◌, ◌⊎◌, ◌≤◌, ℕ, true, false, List, [], ◌∷◌, Option, Some, None, Result, Ok, Err}
+use Rattle.std.specs.Prelude.{◌≡◌, ◌⊎◌, ◌≤◌, ℕ, true, false, List, Option, Some, None, Result, Ok, Err}
 use Rattle.std.specs.FinMap as fin
 use Rattle.obj_model.specs.Limits.{number_limit}
 use Rattle.obj_model.specs.States.{IsState}
@@ -7,11 +7,10 @@ use Rattle.obj_model.specs.declared.state.NameState.{NameState}
 use Rattle.store_face.specs.Calls.{Opens, ReadFails, Reopened, Stays}
 use Rattle.store_face.specs.Tables.{Table}
 use Rattle.store_face.specs.Views.{Holds, StoreView}
-use Rattle.store_face.specs.declared.fault.StoreFault.{StoreFault}
 use Rattle.pool_keys.specs.Keys.{epoch_key, state_key}
 use Rattle.pool_keys.specs.Values.{IsAtEpoch}
 use Rattle.rec_codec.specs.Spelling.{SpellsState}
-use Rattle.base_pool.specs.Serves.{FailsBase, IsUnreadable, StaysBase}
+use Rattle.base_pool.specs.Serves.{IsUnreadable, StaysBase}
 use Rattle.base_pool.specs.Views.{BaseView, Has}
 use Rattle.base_pool.specs.declared.fault.BaseFault.{BaseFault}
 use Rattle.base_pool.specs.declared.fault.BaseFault.TheVariants.{Store, BadRecord}

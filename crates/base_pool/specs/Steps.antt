@@ -4,7 +4,7 @@ use Rattle.std.specs.FinMap as fin
 use Rattle.obj_model.specs.States.{IsState}
 use Rattle.obj_model.specs.declared.state.NameState.{NameState}
 use Rattle.store_face.specs.Calls.{ReadFails, Stays}
-use Rattle.store_face.specs.Views.{Holds, Sound, StoreView}
+use Rattle.store_face.specs.Views.{Holds, StoreView}
 use Rattle.store_face.specs.declared.fault.StoreFault.{StoreFault}
 use Rattle.store_face.specs.declared.fault.StoreFault.TheVariants as store
 use Rattle.tier_types.specs.declared.message.BaseMsg.{BaseMsg}
