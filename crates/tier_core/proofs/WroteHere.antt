@@ -1,6 +1,6 @@
 -- A request that acted on a record of the cache is answered.
-use Rattle.std.proofs.Common.{◌≡◌, ◌≤◌, ◌+◌, inl, inr, ℕ, true, false, List, ◌∷◌, [], ◌++◌, length, Option, Some, None, refl, sym, ap, subst, ◌∙◌, arith}
-use Rattle.std.specs.Prelude.{Ok, Err}
+use Rattle.std.proofs.Common.{◌≡◌, ◌≤◌, inl, inr, ℕ, true, List, length, Option, Some, None, refl, sym, ap, subst, ◌∙◌, arith}
+use Rattle.std.specs.Prelude.{Ok, Err, OnOk}
 use Rattle.std.specs.FinMap as fin
 use Rattle.std.proofs.lemmas.List.{length_push}
 use Rattle.agent_state.specs.declared.totals.Share.{Share}
@@ -15,7 +15,7 @@ use Rattle.pool_keys.specs.Keys.{record_key}
 use Rattle.pool_keys.specs.Values.{IsRecOf}
 use Rattle.store_face.specs.Calls.{Made}
 use Rattle.store_face.specs.Tables.{Table}
-use Rattle.store_face.specs.Views.{Sound, StoreView}
+use Rattle.store_face.specs.Views.{StoreView}
 use Rattle.tier_chron.specs.Calls.{call_of}
 use Rattle.tier_chron.specs.Fits.{TellsCall, TellsWrite}
 use Rattle.tier_chron.specs.Places.{state_at}
@@ -29,14 +29,13 @@ use Rattle.tier_join.proofs.Keys.{set_is}
 use Rattle.tier_join.proofs.Left.{made_left}
 use Rattle.tier_join.specs.Group.{BothTell}
 use Rattle.tier_join.specs.Promises.{with_req}
-use Rattle.tier_join.specs.Steps.{Has, HasRec, sets}
+use Rattle.tier_join.specs.Steps.{Has, HasRec, Outcome, sets}
 use Rattle.tier_protocol.proofs.Cells.{get_here}
 use Rattle.tier_rec.specs.Records.{acted_record}
 use Rattle.tier_types.specs.declared.record.TierRec.{TierRec}
 use Rattle.tier_view.specs.Answered.{HasFaultCause, IsAnswerOf, own_answer}
 use Rattle.tier_view.specs.Answers.{KeepsQuietly, ended_calls}
-use Rattle.tier_view.specs.Calls.{Calls, call_in}
-use Rattle.tier_view.specs.Grows.{Grows}
+use Rattle.tier_view.specs.Calls.{Calls}
 use Rattle.tier_view.specs.Laws.{Keeps}
 use Rattle.tier_view.specs.Locals.{acted_locally}
 use Rattle.tier_view.specs.Views.{GroupView, calls_in, joined}
@@ -88,6 +87,11 @@ has_after old new name bytes r spelled made = λ t left.
     let from = made_left (sets (record_key name) (Some bytes)) old new made t left in
     subst (λ (x : Table). IsRecOf (fin.get x (record_key name)) (Some r)) (sym (from.2 ∙ set_is from.0 (record_key name) (Some bytes)))
     (subst (λ (o : Option (List ℕ)). IsRecOf o (Some r)) (sym (get_here from.0 (record_key name) (Some bytes))) spelled)
+
+pub made_there : (s : StoreView) (w : GroupView) (name : List ℕ) (r : TierRec) (result : Outcome) → Commits (record_put name r) s w.stores.cache result → IsSpelled r result
+    → OnOk result (HasRec (joined w) name (Some r))
+made_there s w name r (Ok m) commits spelled = has_after s w.stores.cache name (record_bytes r) r spelled commits.committed
+made_there s w name r (Err fault) commits spelled = tt
 
 -- ---- the answer
 

@@ -1,5 +1,5 @@
 //! A write request acts on a record of the cache, and is answered.
-ghost use Rattle.std.specs.Prelude.{◌≡◌, true, None, Some};
+ghost use Rattle.std.specs.Prelude.{◌≡◌, true, None, Some, OnOk};
 ghost use Rattle.cache_pool.specs.Puts.{Commits, record_put};
 ghost use Rattle.obj_model.specs.States.{IsState};
 ghost use Rattle.tier_chron.specs.declared.asked.Asked.TheVariants.{Write};
@@ -41,8 +41,9 @@ pub(crate) fn own_answer(reply: Reply) -> Answer
 
 impl<P: Store> Group<P> {
     /// Commits the act of a write request in flight, as `act_here` does, and answers the call by its
-    /// reply: memory for both is taken before the commit, so an act that is there was answered. With
-    /// any fault the call is in flight still.
+    /// reply: memory for both is taken before the commit, so an act that is there was answered. The
+    /// cache then has a record of the name, also where the state has no object. With any fault the
+    /// call is in flight still.
     pub fn write_here(
         &mut self,
         turn: Turn,
@@ -61,6 +62,8 @@ impl<P: Store> Group<P> {
         ensures written { Writes turn req reply held state self.old self.new result }
         ensures put { Commits (record_put req.name (acted_record state self.old.agent.moment))
             self.old.stores.cache self.new.stores.cache result }
+        ensures there { OnOk result (HasRec (joined self.new) req.name
+            (Some (acted_record state self.old.agent.moment))) }
         ensures step { Keeps (with_req req) None self.old self.new }
     {
         let Group {

@@ -9,7 +9,8 @@ use Rattle.tier_join.specs.Promises.{with_req}
 use Rattle.tier_rec.specs.Records.{acted_record, totals_after}
 use Rattle.tier_types.specs.declared.record.TierRec.{TierRec}
 use Rattle.tier_view.specs.Laws.{Keeps}
-use Rattle.tier_view.specs.Views.{GroupView}
+use Rattle.tier_join.specs.Steps.{HasRec}
+use Rattle.tier_view.specs.Views.{GroupView, joined}
 use Rattle.tier_core.specs.Acts.{first_for, pending_after}
 use Rattle.tier_core.specs.Ends.{EndsParts}
 use Rattle.tier_core.specs.Parts.{group_of, stores_of}
@@ -19,6 +20,7 @@ use Rattle.tier_core.specs.declared.parts.Agent.{Agent}
 use Rattle.tier_core.proofs.ActedHere.{IsReady, acted_is, unacted_step}
 use Rattle.tier_core.proofs.ReadHere.{nothing_is}
 use Rattle.tier_core.proofs.WroteAll.{own_is, written_all}
+use Rattle.tier_core.proofs.WroteHere.{made_there}
 use Rattle.tier_core.proofs.group.Group.write_here.Goals as goal
 
 pub invariant_of-self-2 : goal.invariant_of-self-2
@@ -101,6 +103,8 @@ returns g c =
     record {
       written = subst (λ (v : GroupView). Writes c.args.turn q given r n v new result) c.self.view_is all.is;
       put = subst (λ (v : GroupView). Commits (record_put q.name (acted_record n v.agent.moment)) v.stores.cache t result) c.self.view_is put;
+      there = subst (λ (v : GroupView). OnOk result (HasRec (joined new) q.name (Some (acted_record n v.agent.moment)))) c.self.view_is
+          (made_there s new q.name (acted_record n i.agent.moment) result put spelled);
       step = subst (λ (v : GroupView). Keeps (with_req q) None v new) c.self.view_is all.step;
     }
 
