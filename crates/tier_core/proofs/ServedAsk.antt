@@ -1,21 +1,18 @@
 -- A client's call is served behind the reading of its name's record.
 use Rattle.std.proofs.Common.{◌≡◌, ℕ, true, List, Option, Some, None, refl, sym, ap, subst, ◌∙◌}
 use Rattle.std.specs.Prelude.{Result, Ok, Err}
-use Rattle.cache_pool.specs.Reads.{IsLawful}
 use Rattle.cache_pool.specs.declared.fault.CacheFault.{CacheFault}
-use Rattle.obj_model.specs.States.{IsState}
-use Rattle.obj_model.specs.declared.req.Req.{Req}
 use Rattle.tier_chron.specs.declared.asked.Asked.{Asked}
 use Rattle.tier_join.specs.Promises.{as_it_is, with_req}
-use Rattle.tier_join.specs.Steps.{HasRec, Outcome}
+use Rattle.tier_join.specs.Steps.{Outcome}
 use Rattle.tier_types.specs.Flights.{name_asked}
 use Rattle.tier_types.specs.declared.flight.Ask.{Ask}
 use Rattle.tier_types.specs.declared.record.TierRec.{TierRec}
 use Rattle.tier_view.specs.Laws.{Keeps}
-use Rattle.tier_view.specs.Views.{GroupView, joined}
+use Rattle.tier_view.specs.Views.{GroupView}
 use Rattle.tier_view.proofs.Serving.{actless_keeps}
 use Rattle.tier_core.specs.Reads.{ReadsHere}
-use Rattle.tier_core.specs.Serves.{IsHit, MayBeServed, Serves, ServesAsk, ServesHit, asked_of, served_as, with_ask}
+use Rattle.tier_core.specs.Serves.{MayBeServed, Serves, ServesAsk, ServesHit, served_as, with_ask}
 use Rattle.tier_core.specs.Turns.{IsTurn}
 use Rattle.tier_core.specs.declared.serving.Served.{Served}
 use Rattle.tier_core.specs.declared.turns.Turn.{Turn}
@@ -31,7 +28,7 @@ module _ (name : List ℕ) (u v : GroupView) (found : Result (Option TierRec) Ca
   read_turn turn a h = subst (λ (x : GroupView). IsTurn x turn a) (sym read.is) (record { entry = h.entry; is = h.is; turn_is = h.turn_is; asked_is = h.asked_is })
 
   pub read_may : (call : ℕ) (ask : Ask) → MayBeServed u call ask → MayBeServed v call ask
-  read_may call (Ask.Write q) h = subst (λ (x : GroupView). MayBeServed x call (Ask.Write q)) (sym read.is) (record { up = h.up; lets = h.lets; actless = h.actless })
+  read_may call (Ask.Write q) h = subst (λ (x : GroupView). MayBeServed x call (Ask.Write q)) (sym read.is) (record { up = h.up; lets = h.lets; free = h.free })
   read_may call (Ask.Read client key vector) h = tt
 
 pub read_live : (name : List ℕ) (u v : GroupView) (rec : Option TierRec) → ReadsHere name u v (Ok rec) → u.stores.cache.live ≡ true → v.stores.cache.live ≡ true

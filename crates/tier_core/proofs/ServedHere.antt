@@ -1,15 +1,14 @@
 -- A client's call is served from a record of the cache.
-use Rattle.std.proofs.Common.{◌≡◌, Bool, true, false, if◌then◌else◌, inl, ℕ, cond, ◌==◌, List, [], ◌∷◌, Option, Some, None, refl, sym, ap, subst, ◌∙◌}
+use Rattle.std.proofs.Common.{◌≡◌, Bool, true, false, if◌then◌else◌, inl, ℕ, cond, ◌==◌, List, [], ◌∷◌, Option, Some, None, refl, sym, ap, subst}
 use Rattle.std.specs.Prelude.{Result, Ok, Err, OnOk, OnErr}
 use Rattle.std.specs.FinMap as fin
 use Rattle.std.specs.List.{AllByRecursion}
 use Rattle.std.specs.Option.{option_map}
-use Rattle.cache_pool.specs.Puts.{Commits, record_put}
+use Rattle.cache_pool.specs.Puts.{record_put}
 use Rattle.obj_model.specs.declared.reply.Reply.{Reply}
 use Rattle.obj_model.specs.declared.req.Req.{Req}
 use Rattle.obj_model.specs.declared.state.NameState.{NameState}
 use Rattle.obj_ops.specs.Acts.{act}
-use Rattle.obj_ops.specs.Stores.{Store}
 use Rattle.obj_ops.specs.declared.request.Acted.{Acted}
 use Rattle.obj_ops.specs.declared.request.Acted.TheVariants.{Fresh, Again, Stale, Worn}
 use Rattle.store_face.proofs.Later.{stays_same}
@@ -17,11 +16,10 @@ use Rattle.store_face.specs.declared.fault.StoreFault.TheVariants.{NoMemory}
 use Rattle.tier_chron.specs.Logs.{is_opened}
 use Rattle.tier_chron.specs.declared.answer.Answer.{Answer}
 use Rattle.tier_chron.specs.declared.asked.Asked.{Asked}
-use Rattle.tier_chron.specs.declared.asked.Asked.TheVariants.{Write}
 use Rattle.tier_chron.specs.declared.entries.First.{First}
 use Rattle.tier_join.specs.declared.doubt.Doubt.{Doubt}
-use Rattle.tier_join.specs.Promises.{as_it_is, with_req}
-use Rattle.tier_join.specs.Steps.{Outcome, with_doubt}
+use Rattle.tier_join.specs.Promises.{as_it_is}
+use Rattle.tier_join.specs.Steps.{with_doubt}
 use Rattle.tier_rec.specs.Records.{acted_record}
 use Rattle.tier_types.specs.Flights.{lets_write}
 use Rattle.tier_types.specs.declared.record.TierRec.{TierRec}
@@ -31,14 +29,13 @@ use Rattle.tier_view.specs.Delivers.{IsFirstOf}
 use Rattle.tier_view.specs.Laws.{Keeps}
 use Rattle.tier_view.specs.Locals.{ActsHere, with_cache}
 use Rattle.tier_view.specs.Stores.{doubt_in}
-use Rattle.tier_view.specs.Views.{GroupView, joined}
+use Rattle.tier_view.specs.Views.{GroupView}
 use Rattle.tier_view.specs.Whole.{IsWhole}
 use Rattle.tier_view.specs.declared.parts.Entry.{Entry}
 use Rattle.tier_view.specs.declared.parts.Pending.{Pending}
 use Rattle.tier_view.proofs.Answering.{quiet_is_step}
 use Rattle.tier_view.proofs.AnsweringFaults.{one_entry}
 use Rattle.tier_view.proofs.LocalFrees.{leaving_cache_keeps}
-use Rattle.tier_view.proofs.Serving.{actless_keeps}
 use Rattle.tier_core.specs.Acts.{first_for}
 use Rattle.tier_core.specs.Ends.{IsEnded}
 use Rattle.tier_core.specs.Keeps.{MayBeAsked}
@@ -99,7 +96,11 @@ hit_acts v turn q r t given hit lets acts = record {
 -- ---- without memory
 
 pub unwritten : (v : GroupView) (turn : Turn) (q : Req) (r : TierRec) (t : NameState) (given : Reply) → v.stores.pending ≡ None → ServesWrite turn q r (Fresh t given) v v (Err NoMemory)
-unwritten v turn q r t given none = (same_group v none, unput (record_put q.name (acted_record t v.agent.moment)) v.stores.cache)
+unwritten v turn q r t given none = record {
+  written = same_group v none;
+  put = unput (record_put q.name (acted_record t v.agent.moment)) v.stores.cache;
+  there = tt;
+}
 
 -- whatever the request does
 pub unserved : (v : GroupView) (turn : Turn) (q : Req) (r : TierRec) (x : Acted) → v.stores.pending ≡ None → ServesWrite turn q r x v v (Err NoMemory)

@@ -1,7 +1,6 @@
 -- A write request that does not act is answered from a record of the cache.
-use Rattle.std.proofs.Common.{◌≡◌, ◌≤◌, ◌⊎◌, inl, inr, ℕ, true, List, [], ◌∷◌, length, Option, Some, None, refl, sym, ap, subst, ◌∙◌, arith}
+use Rattle.std.proofs.Common.{◌≡◌, ◌≤◌, inr, ℕ, true, List, [], ◌∷◌, length, Option, Some, refl, sym, ap, subst, ◌∙◌, arith}
 use Rattle.std.specs.Prelude.{Result, Ok, Err}
-use Rattle.std.specs.List.{AllByRecursion}
 use Rattle.agent_state.specs.declared.totals.Share.{Share}
 use Rattle.obj_model.specs.Limits.{number_limit}
 use Rattle.obj_model.specs.declared.reply.Kept.{Kept}
@@ -20,7 +19,6 @@ use Rattle.tier_chron.specs.Calls.{call_of}
 use Rattle.tier_chron.specs.Fits.{HasReply, TellsCall, TellsWrite}
 use Rattle.tier_chron.specs.Shapes.{HasNoAct, IsBegun, NumbersAgree, Stands, StandsBeside, may_answer, may_go}
 use Rattle.tier_chron.specs.declared.answer.Answer.{Answer}
-use Rattle.tier_chron.specs.declared.answer.Answer.TheVariants as answer
 use Rattle.tier_chron.specs.declared.asked.Asked.{Asked}
 use Rattle.tier_chron.specs.declared.asked.Asked.TheVariants.{Write}
 use Rattle.tier_chron.specs.declared.entries.Act.{Act}

@@ -1,15 +1,18 @@
 -- A client's call that is served from the cache's record of its name.
-use Rattle.std.specs.Prelude.{◌≡◌, ℕ, true, List, length, Option, Some, None, Result, Ok, Err}
+use Rattle.std.specs.Prelude.{◌≡◌, ℕ, true, List, length, Option, Some, None, Result, Ok, Err, OnOk}
 use Rattle.std.specs.FinMap as fin
 use Rattle.cache_pool.specs.Puts.{Commits, record_put}
 use Rattle.cache_pool.specs.declared.fault.CacheFault.{CacheFault}
+use Rattle.obj_model.specs.declared.reply.Reply.{Reply}
 use Rattle.obj_model.specs.declared.req.Req.{Req}
+use Rattle.obj_model.specs.declared.state.NameState.{NameState}
 use Rattle.obj_model.specs.declared.tier.Path.TheVariants.{Hit}
 use Rattle.obj_ops.specs.Acts.{act, look}
 use Rattle.obj_ops.specs.Stores.{Store}
 use Rattle.obj_ops.specs.declared.request.Acted.{Acted}
 use Rattle.obj_ops.specs.declared.request.Acted.TheVariants.{Fresh, Again, Stale, Worn}
 use Rattle.store_face.specs.declared.fault.StoreFault.TheVariants.{NoMemory}
+use Rattle.tier_chron.specs.Laws.{MayStillAct}
 use Rattle.tier_chron.specs.Logs.{Log}
 use Rattle.tier_chron.specs.Shapes.{HasNoAct}
 use Rattle.tier_chron.specs.declared.answer.Answer.{Answer}
@@ -49,11 +52,11 @@ with_ask (Ask.Read client name vector) = as_it_is
 -- ---- what may be served
 
 -- a write request may be served from a record while the cache is up and no work on the name keeps
--- writers out, if its call has no act
+-- writers out, if its call may still act
 pub record MayWriteHere (v : GroupView) (call : ℕ) (name : List ℕ) : Type 0 where
   pub up : v.standing.phase ≡ Up
   pub lets : lets_write (fin.get v.traffic.flights name) ≡ true
-  pub actless : HasNoAct call v.log.acts
+  pub free : MayStillAct call v.log
 
 -- what has to hold where a client's call is served: a reading needs nothing of this
 abbrev pub MayBeServed : GroupView → (call : ℕ) → Ask → Type 0
@@ -105,14 +108,21 @@ as_outcome (Err other) = Err NoMemory
 
 -- ---- what is served
 
--- A write request, by what it does to the record's state. Where it acts, the record of the state
--- behind it is committed, also where that has no object, and the act is answered in the same step;
--- else nothing is committed.
+-- The act of a write request is committed, and answered in the same step: what is put is the dirty
+-- record of the state behind it, also where that has no object, so the name has a record still.
+pub record ServesAct (turn : Turn) (req : Req) (held : TierRec) (state : NameState)
+    (given : Reply) (old new : GroupView) (result : Outcome) : Type 0 where
+  pub written : Writes turn req given held state old new result
+  pub put : Commits (record_put req.name (acted_record state old.agent.moment)) old.stores.cache
+      new.stores.cache result
+  pub there : OnOk result
+      (HasRec (joined new) req.name (Some (acted_record state old.agent.moment)))
+
+-- A write request, by what it does to the record's state: only where it acts something is
+-- committed.
 abbrev pub ServesWrite : Turn → Req → TierRec → Acted → (old new : GroupView) → Outcome → Type 0
 ServesWrite turn req held (Fresh state given) old new result =
-    Writes turn req given held state old new result
-    × Commits (record_put req.name (acted_record state old.agent.moment)) old.stores.cache
-    new.stores.cache result
+    ServesAct turn req held state given old new result
 ServesWrite turn req held (Again given) old new result =
     Answers turn (kept_answer given) old new result
 ServesWrite turn req held (Stale kept) old new result =

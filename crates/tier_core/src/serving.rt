@@ -1,17 +1,17 @@
 //! A client's call is served from the cache's record of its name.
-ghost use Rattle.std.specs.Prelude.{◌≡◌, true, None, Some, OnErr, OnOk};
+ghost use Rattle.std.specs.Prelude.{◌≡◌, ◌↔◌, true, None, Some, IsTrue, OnErr, OnOk};
+ghost use Rattle.std.specs.Option.{option_copied};
 ghost use Rattle.std.specs.FinMap as fin;
 ghost use Rattle.obj_model.specs.States.{IsState};
 ghost use Rattle.obj_ops.specs.Acts.{act, look, state_after};
 ghost use Rattle.obj_ops.specs.declared.request.Acted.TheVariants.{Fresh};
 ghost use Rattle.tier_chron.specs.declared.asked.Asked.TheVariants.{Read};
 ghost use Rattle.tier_core.specs.Ends.{IsEnded};
-ghost use Rattle.tier_core.specs.Serves.{Answers, IsHit, IsUnacted, MayBeServed, Serves, ServesAsk, ServesWrite, answered_here, as_outcome, asked_of, served_as, with_ask};
+ghost use Rattle.tier_core.specs.Serves.{Answers, IsHit, IsUnacted, MayBeServed, MayWriteHere, Serves, ServesAsk, ServesWrite, answered_here, as_outcome, asked_of, served_as, with_ask};
 ghost use Rattle.tier_core.specs.Turns.{IsTurn};
 ghost use Rattle.tier_join.specs.Promises.{as_it_is, with_req};
 ghost use Rattle.tier_join.specs.Steps.{HasRec};
 ghost use Rattle.tier_types.specs.Flights.{lets_write, name_asked};
-ghost use Rattle.tier_types.specs.declared.phase.Phase.TheVariants.{Up};
 ghost use Rattle.tier_view.specs.Answered.{kept_answer, looked_answer};
 ghost use Rattle.tier_view.specs.Answers.{KeepsQuietly};
 ghost use Rattle.tier_view.specs.Laws.{Keeps};
@@ -23,7 +23,7 @@ use obj_model::{Name, NameState, NoMemory, Path, Reply, Req, Vector};
 use obj_ops::{Acted, act};
 use store_face::{Store, StoreFault};
 use tier_chron::{Answer, Logged};
-use tier_types::{Ask, TierRec};
+use tier_types::{Ask, Flight, Phase, TierRec};
 
 /// What came of a client's call at the cache's record of its name.
 #[derive(Debug, Drop)]
@@ -64,6 +64,17 @@ fn as_outcome(made: Result<(), NoMemory>) -> Result<(), StoreFault>
     }
 }
 
+// Whether a client may write in the cache while this is under way.
+fn lets_write(work: Option<&Flight>) -> bool
+    ensures { result ≡ lets_write (option_copied work.entry) }
+{
+    match work {
+        None => true,
+        Some(Flight::Flush { blocking, .. }) => !*blocking,
+        Some(_) => false,
+    }
+}
+
 // The name that a client asks about.
 fn name_asked(ask: &Ask) -> &Name
     ensures { result.now ≡ name_asked ask.now }
@@ -85,6 +96,28 @@ fn served_as(made: Result<(), StoreFault>) -> Served
 }
 
 impl<P: Store> Group<P> {
+    // Whether a write request on this name may be served from a record.
+    fn may_write_here(&self, call: u64, name: &Name) -> bool
+        ensures { IsTrue result ↔ MayWriteHere self.now call name.now }
+    {
+        let up = matches!(self.start.phase, Phase::Up);
+        let lets = lets_write(self.wires.flights().get(name));
+        let free = self.history.may_act(call);
+        up && lets && free
+    }
+
+    /// Whether a client's call in flight may be served from a record: a reading always may, and a
+    /// write request while the cache is up and no work on the name keeps writers out, if the call
+    /// may still act.
+    pub fn may_serve(&self, call: u64, ask: &Ask) -> bool
+        ensures { IsTrue result ↔ MayBeServed self.now call ask.now }
+    {
+        match ask {
+            Ask::Write(req) => self.may_write_here(call, &req.name),
+            Ask::Read { .. } => true,
+        }
+    }
+
     /// Answers a write request that does not act on the record of its name, at the present number
     /// of acts, and ends its call. Nothing is committed. Without memory nothing changes.
     pub fn answer_unacted(

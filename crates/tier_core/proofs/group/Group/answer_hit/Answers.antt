@@ -1,6 +1,5 @@
 use Rattle.std.proofs.Common.{subst, sym}
 use Rattle.tier_join.specs.Promises.{with_req}
-use Rattle.tier_view.specs.Views.{GroupView}
 use Rattle.tier_view.specs.Whole.{IsWhole}
 use Rattle.tier_view.proofs.Serving.{actless_keeps}
 use Rattle.tier_core.specs.Serves.{Answers}

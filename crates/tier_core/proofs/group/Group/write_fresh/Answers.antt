@@ -1,16 +1,11 @@
 use Rattle.std.proofs.Common.{subst, sym}
-use Rattle.cache_pool.specs.Puts.{Commits, record_put}
 use Rattle.obj_model.specs.declared.req.Req.{Req}
 use Rattle.tier_join.specs.Promises.{with_req}
-use Rattle.tier_rec.specs.Records.{acted_record}
-use Rattle.tier_view.specs.Laws.{Keeps}
 use Rattle.tier_view.specs.Locals.{ActsHere}
-use Rattle.tier_view.specs.Views.{GroupView}
 use Rattle.tier_view.specs.Whole.{IsWhole}
 use Rattle.tier_view.proofs.Serving.{actless_keeps}
 use Rattle.tier_core.specs.Acts.{first_for}
 use Rattle.tier_core.specs.Serves.{ServesWrite}
-use Rattle.tier_core.specs.Writes.{Writes}
 use Rattle.obj_ops.specs.declared.request.Acted.TheVariants.{Fresh}
 use Rattle.tier_core.proofs.ServedHere.{hit_acts, stays_step}
 use Rattle.tier_core.proofs.group.Group.write_fresh.Goals as goal
@@ -31,4 +26,4 @@ returns-clause-served g c =
     let v = c.args.self.now in
     let w = c.write_here.new.self in
     subst (λ (q : Req). ServesWrite c.args.turn q c.args.held (Fresh c.args.state c.args.reply) v w c.write_here.result) c.in_ok-req.ensures
-    (c.write_here.ensures.written, c.write_here.ensures.put)
+    (record { written = c.write_here.ensures.written; put = c.write_here.ensures.put; there = c.write_here.ensures.there })
