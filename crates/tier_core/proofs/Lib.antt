@@ -31,5 +31,6 @@ pub mod Unacted
 pub mod ServedHere
 pub mod FoundHere
 pub mod OpenedHere
+pub mod ReadLeads
 pub mod ServedAsk
 pub mod Lacked

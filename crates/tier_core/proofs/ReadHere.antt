@@ -33,7 +33,7 @@ use Rattle.tier_core.proofs.Kept.{kept_on}
 -- ---- the store
 
 -- a reading changes no map, and the store stays or its disk failed
-leaves : (name : List ℕ) (s t : StoreView) (result : Result (Option TierRec) CacheFault) → ReadsRecord name s t result → (t.moments ≡ s.moments) × (Stays s t ⊎ Fails s t)
+pub leaves : (name : List ℕ) (s t : StoreView) (result : Result (Option TierRec) CacheFault) → ReadsRecord name s t result → (t.moments ≡ s.moments) × (Stays s t ⊎ Fails s t)
 leaves name s t (Ok rec) h = (h.2.moments, inl h.2)
 leaves name s t (Err (Store Disk)) h = (h.1, inr h.0)
 leaves name s t (Err (Store (BadImage at))) h = absurd h

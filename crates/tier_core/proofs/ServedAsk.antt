@@ -16,6 +16,7 @@ use Rattle.tier_core.specs.Serves.{MayBeServed, Serves, ServesAsk, ServesHit, se
 use Rattle.tier_core.specs.Turns.{IsTurn}
 use Rattle.tier_core.specs.declared.serving.Served.{Served}
 use Rattle.tier_core.specs.declared.turns.Turn.{Turn}
+use Rattle.tier_core.proofs.ReadLeads.{reading_leads}
 use Rattle.tier_core.proofs.ServedHere.{stays_step}
 
 -- ---- behind a reading
@@ -55,6 +56,9 @@ module _ (name : List ℕ) (turn : Turn) (ask : Ask) (u v : GroupView) (is : nam
   no_step : (found : Result (Option TierRec) CacheFault) → ReadsHere name u v found → Keeps (with_ask ask) None v v
   no_step found read = any_ask ask v v (stays_step v reading.0 (read_settled name u v found read))
 
+  both : (found : Result (Option TierRec) CacheFault) (w : GroupView) → ReadsHere name u v found → Keeps (with_ask ask) None v w → Keeps (with_ask ask) None u w
+  both found w read serving = reading_leads (with_ask ask) name u v w found read reading serving
+
   pub unread_serves : (fault : CacheFault) → ReadsHere name u v (Err fault) → Serves turn ask u v (Served.Unread fault)
   unread_serves fault read = record {
     between = v;
@@ -62,7 +66,8 @@ module _ (name : List ℕ) (turn : Turn) (ask : Ask) (u v : GroupView) (is : nam
     read = read_asked (Err fault) read;
     reading = reading;
     served = (refl, refl);
-    step = no_step (Err fault) read;
+    serving = no_step (Err fault) read;
+    step = both (Err fault) v read (no_step (Err fault) read);
   }
 
   pub absent_serves : (rec : Option TierRec) → rec ≡ None → ReadsHere name u v (Ok rec) → Serves turn ask u v Served.Absent
@@ -74,7 +79,8 @@ module _ (name : List ℕ) (turn : Turn) (ask : Ask) (u v : GroupView) (is : nam
         read = read_asked (Ok None) found;
         reading = reading;
         served = (refl, refl);
-        step = no_step (Ok None) found;
+        serving = no_step (Ok None) found;
+        step = both (Ok None) v found (no_step (Ok None) found);
       }
 
   pub hit_serves : (rec : Option TierRec) (held : TierRec) (w : GroupView) (made : Outcome) (result : Served) → rec ≡ Some held → result ≡ served_as made → ReadsHere name u v (Ok rec)
@@ -85,5 +91,6 @@ module _ (name : List ℕ) (turn : Turn) (ask : Ask) (u v : GroupView) (is : nam
     read = read_asked (Ok (Some held)) (subst (λ (o : Option TierRec). ReadsHere name u v (Ok o)) some read);
     reading = reading;
     served = subst (λ (x : Served). ServesHit turn ask held v w x) (sym told) (served_hit turn ask held v w made served);
-    step = step;
+    serving = step;
+    step = both (Ok rec) w read step;
   }

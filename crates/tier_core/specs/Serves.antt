@@ -159,11 +159,13 @@ ServesRead turn ask (Ok None) old new result = (result ≡ Served.Absent) × (ne
 ServesRead turn ask (Ok (Some held)) old new result = ServesHit turn ask held old new result
 
 -- A client's call is served: the record of its name is read, which is a step that changes nothing
--- but the cache's store; and from there what was read decides, in one step more.
+-- but the cache's store; and from there what was read decides, in one step more. Both are one step
+-- too, since the reading commits nothing and answers nobody.
 pub record Serves (turn : Turn) (ask : Ask) (old new : GroupView) (result : Served) : Type 0 where
   pub between : GroupView
   pub found : Result (Option TierRec) CacheFault
   pub read : ReadsHere (name_asked ask) old between found
   pub reading : Keeps as_it_is None old between
   pub served : ServesRead turn ask found between new result
-  pub step : Keeps (with_ask ask) None between new
+  pub serving : Keeps (with_ask ask) None between new
+  pub step : Keeps (with_ask ask) None old new
