@@ -31,7 +31,8 @@ use Rattle.tier_view.specs.declared.parts.Replied.{Replied}
 -- the want of room that a reply of this epoch tells of, and of which operation
 abbrev pub lacked_by : (epoch : ℕ) → BaseReply → Option Lacked
 lacked_by epoch (BaseReply.NoSpace e op used need limit) =
-    if e == epoch then Some (record { opid = op; used = used; need = need; limit = limit }) else None
+    if e == epoch then Some (record { opid = op; used = used; need = need; limit = limit })
+    else None
 lacked_by epoch other = None
 
 abbrev pub lacked_in : (epoch : ℕ) → Option Replied → Option Lacked

@@ -141,7 +141,8 @@ landed_here turn acts a own = record {
 -- what is between the pools where the work on this name and the reply of this number are gone
 abbrev pub wires_landed : Name → (number : ℕ) → WiresView → WiresView
 wires_landed k number w =
-    carrying (without_reply number (record w.traffic { flights = fin.remove w.traffic.flights k })) w
+    carrying
+    (without_reply number (record w.traffic { flights = fin.remove w.traffic.flights k })) w
 
 -- the same where a call awaits nothing
 abbrev pub wires_unawaited : (call : ℕ) → WiresView → WiresView

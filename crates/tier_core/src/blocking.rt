@@ -115,8 +115,8 @@ fn block(
 impl<P: Store> Group<P> {
     /// Answers a call in flight that began nothing yet with what holds it up, by the table of what
     /// work on a name keeps out, and ends it. Where no work of another call does, nothing changes.
-    /// The way is told where reads at the base hold it up, since these alone come behind its choice.
-    /// Without memory nothing changes.
+    /// The way is told where reads at the base hold it up, since these alone come behind its
+    /// choice. Without memory nothing changes.
     pub fn block_call(
         &mut self,
         turn: Turn,
