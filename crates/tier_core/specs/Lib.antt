@@ -31,3 +31,6 @@ pub mod Lands
 pub mod Lacks
 -- how a call is turned away
 pub mod Blocks
+-- when a call is refused
+pub mod Held
+pub mod Callings
