@@ -1,5 +1,6 @@
 -- what a group is made of, and what always holds of it
 pub mod Parts
+pub mod Apart
 pub mod Keeps
 -- how a call ends
 pub mod Ends
