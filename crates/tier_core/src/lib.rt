@@ -23,7 +23,6 @@ mod lacks;
 mod landing;
 mod lands;
 mod looking;
-mod looking;
 mod losing;
 mod observing;
 mod opening;
