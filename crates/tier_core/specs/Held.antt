@@ -47,6 +47,6 @@ pub record IsFullWith (v : GroupView) (full : Fullness) : Type 0 where
 abbrev pub IsFullFor : (line : Option ℕ) → GroupView → Type 0
 IsFullFor line v = IsSome line × IsFull v
 
--- the next operation's number stands at the limit, or the last call's number at or above it
+-- the next operation's number, or the last call's, stands at the limit or above it
 abbrev pub IsWorn : GroupView → Type 0
-IsWorn v = (v.standing.next_opid ≡ number_limit) ⊎ (number_limit ≤ v.calls.last)
+IsWorn v = (number_limit ≤ v.standing.next_opid) ⊎ (number_limit ≤ v.calls.last)

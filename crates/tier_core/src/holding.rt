@@ -79,11 +79,10 @@ impl<P: Store> Group<P> {
         }
     }
 
-    /// Whether the next operation's number stands at 2^62, or the last call's number at or above
-    /// it.
+    /// Whether the next operation's number, or the last call's, stands at 2^62 or above it.
     pub fn is_worn(&self) -> bool
         ensures { IsTrue result ↔ IsWorn self.now }
     {
-        self.start.next_opid == NUMBER_LIMIT || self.calls.last() >= NUMBER_LIMIT
+        self.start.next_opid >= NUMBER_LIMIT || self.calls.last() >= NUMBER_LIMIT
     }
 }
