@@ -1,0 +1,4 @@
+pub mod Single
+pub mod Joined
+pub mod Delivered
+pub mod Listed

@@ -1,0 +1,148 @@
+-- What an event makes of a group, and what is told of it.
+use Rattle.std.specs.Prelude.{◌≡◌, ◌⊎◌, ℕ, true, false, Option, Some, None}
+use Rattle.base_pool.specs.declared.fault.BaseFault.TheVariants as base
+use Rattle.store_face.specs.declared.fault.StoreFault.TheVariants as store
+use Rattle.tier_core.specs.Deliveries.{IsDelivered}
+use Rattle.tier_core.specs.Fences.{Hears}
+use Rattle.tier_core.specs.Lands.{HearsWrite}
+use Rattle.tier_core.specs.declared.delivering.Delivered.{Delivered}
+use Rattle.tier_core.specs.declared.delivering.Delivered.TheVariants as delivered
+use Rattle.tier_core.specs.declared.fencing.Heard.{Heard}
+use Rattle.tier_core.specs.declared.fencing.Heard.TheVariants as heard
+use Rattle.tier_core.specs.declared.landing.Landing.{Landing}
+use Rattle.tier_core.specs.declared.landing.Landing.TheVariants as landing
+use Rattle.tier_node.specs.Replies.{topic_in, call_kept}
+use Rattle.tier_node.specs.declared.event.Event.{Event}
+use Rattle.tier_node.specs.declared.event.Event.TheVariants as event
+use Rattle.tier_node.specs.declared.outcome.Fault.TheVariants as fault
+use Rattle.tier_node.specs.declared.outcome.Outcome.{Outcome}
+use Rattle.tier_node.specs.declared.outcome.Outcome.TheVariants.{Answered, Going, Carried, Ready, NotReady, Failed, NoMemory, Set, Nothing}
+use Rattle.tier_node.specs.declared.receiving.Topic.{Topic}
+use Rattle.tier_node.specs.declared.receiving.Topic.TheVariants as topic
+use Rattle.tier_traffic.specs.Messages.{replied_of, sent_of}
+use Rattle.tier_view.specs.Starts.{forgot_message, forgot_reply, with_base_stopped}
+use Rattle.tier_view.specs.Stops.{with_cache_stopped}
+use Rattle.tier_view.specs.Stores.{Stores}
+use Rattle.tier_view.specs.Views.{GroupView}
+use Rattle.tier_view.specs.Whole.{IsReady}
+
+-- exactly where this is so it is the first, and else the second
+abbrev pub Where : (P First Second : Type 0) → Type 0
+Where P First Second = P × First ⊎ (P → ⊥) × Second
+
+-- this is told, and nothing has changed
+abbrev pub Refuses : Outcome → (old new : GroupView) → Outcome → Type 0
+Refuses told old new outcome = (outcome ≡ told) × (new ≡ old)
+
+-- ---- a message reaches the base
+
+-- Both stores are live, neither pool was stopped since its store was opened, and no commit is in
+-- doubt.
+pub record AreLive (s : Stores) : Type 0 where
+  pub cache : s.cache.live ≡ true
+  pub base : s.base.live ≡ true
+  pub cache_runs : s.cache_stopped ≡ false
+  pub base_runs : s.base_stopped ≡ false
+  pub settled : s.pending ≡ None
+
+-- what is told of it, by what came of it
+abbrev pub told_delivered : Delivered → Outcome
+told_delivered (delivered.Carried number) = Carried number
+told_delivered delivered.Void = Failed fault.Void
+told_delivered delivered.NoMemory = NoMemory
+told_delivered (delivered.Failed (base.Store store.NoMemory)) = NoMemory
+told_delivered (delivered.Failed f) = Failed (fault.Base f)
+told_delivered delivered.Nothing = Nothing
+
+-- the base was handed the message
+pub record HandsOver (number : ℕ) (old new : GroupView) (outcome : Outcome) : Type 0 where
+  pub came : Delivered
+  pub comes : IsDelivered number old new came
+  pub told : outcome ≡ told_delivered came
+
+-- Nothing exactly where there is no message of the number; else NotReady exactly where the stores
+-- are not live.
+abbrev pub Delivers : (number : ℕ) → (old new : GroupView) → Outcome → Type 0
+Delivers number old new outcome = elim (sent_of old.traffic.messages number) [
+  | None ↦ Refuses Nothing old new outcome
+  | Some m ↦ Where (AreLive old.stores) (HandsOver number old new outcome)
+      (Refuses NotReady old new outcome)
+]
+
+-- ---- a reply is received
+
+-- What is told of a reply that was heard, where the Fence kept this call: behind a Fenced of the
+-- cache's epoch, Ready exactly where the group is ready, and else that a start step is needed.
+abbrev pub TellsHeard : Heard → (call : Option ℕ) → (new : GroupView) → Outcome → Type 0
+TellsHeard heard.Other call new outcome = outcome ≡ Nothing
+TellsHeard h call new outcome =
+    Where (IsReady new.stores new.standing) (outcome ≡ Ready) (outcome ≡ Going call)
+
+pub record HearsFence (number : ℕ) (old new : GroupView) (outcome : Outcome) : Type 0 where
+  pub came : Heard
+  pub hears : Hears number old new came
+  pub told : TellsHeard came (call_kept old.standing.kept) new outcome
+
+-- what is told of a reply to a write request
+abbrev pub told_landed : Landing → Outcome
+told_landed (landing.Answered call) = Answered call
+told_landed (landing.GoesOn call) = Going (Some call)
+told_landed landing.Nothing = Nothing
+
+pub record HearsWrote (number : ℕ) (old new : GroupView) (outcome : Outcome) : Type 0 where
+  pub came : Landing
+  pub hears : HearsWrite number old new came
+  pub told : outcome ≡ told_landed came
+
+-- it was taken, or there was not the memory
+abbrev pub TakesWrite : (number : ℕ) → (old new : GroupView) → Outcome → Type 0
+TakesWrite number old new outcome =
+    HearsWrote number old new outcome ⊎ Refuses NoMemory old new outcome
+
+-- Nothing where there is none. One that answers a Fence is heard; any other is NotReady exactly where
+-- the group is not ready.
+abbrev pub ReceivesOn : Option Topic → (number : ℕ) → (old new : GroupView) → Outcome → Type 0
+ReceivesOn None number old new outcome = Refuses Nothing old new outcome
+ReceivesOn (Some topic.Fence) number old new outcome = HearsFence number old new outcome
+ReceivesOn (Some topic.Write) number old new outcome =
+    Where (IsReady old.stores old.standing) (TakesWrite number old new outcome)
+    (Refuses NotReady old new outcome)
+ReceivesOn (Some topic.Other) number old new outcome =
+    Where (IsReady old.stores old.standing) (Refuses Nothing old new outcome)
+    (Refuses NotReady old new outcome)
+
+abbrev pub Receives : (number : ℕ) → (old new : GroupView) → Outcome → Type 0
+Receives number old new outcome =
+    ReceivesOn (topic_in old.traffic number) number old new outcome
+
+-- ---- what is lost, and stops
+
+-- it was done
+abbrev pub Sets : GroupView → (new : GroupView) → Outcome → Type 0
+Sets made new outcome = (outcome ≡ Set) × (new ≡ made)
+
+-- Nothing exactly where there is none of the number
+abbrev pub Forgets : (number : ℕ) → (old new : GroupView) → Outcome → Type 0
+Forgets number old new outcome = elim (sent_of old.traffic.messages number) [
+  | None ↦ Refuses Nothing old new outcome
+  | Some m ↦ Sets (forgot_message number old) new outcome
+]
+
+abbrev pub ForgetsReply : (number : ℕ) → (old new : GroupView) → Outcome → Type 0
+ForgetsReply number old new outcome = elim (replied_of old.traffic.replies number) [
+  | None ↦ Refuses Nothing old new outcome
+  | Some r ↦ Sets (forgot_reply number old) new outcome
+]
+
+abbrev pub Stops : (GroupView → GroupView) → (old new : GroupView) → Outcome → Type 0
+Stops change old new outcome = Sets (change old) new outcome
+
+-- ---- all events
+
+abbrev pub Steps : Event → (old new : GroupView) → Outcome → Type 0
+Steps (event.Deliver message) old new outcome = Delivers message old new outcome
+Steps (event.Receive reply) old new outcome = Receives reply old new outcome
+Steps (event.Forget message) old new outcome = Forgets message old new outcome
+Steps (event.ForgetReply reply) old new outcome = ForgetsReply reply old new outcome
+Steps event.StopCache old new outcome = Stops with_cache_stopped old new outcome
+Steps event.StopBase old new outcome = Stops with_base_stopped old new outcome

@@ -1,0 +1,37 @@
+//! What is told of an event.
+use base_pool::BaseFault;
+
+/// What is told of an event.
+#[derive(Debug, Drop)]
+pub enum Outcome {
+    /// This call was answered, and is over.
+    Answered { call: u64 },
+    /// One step more is needed, for this call or for none. The call goes on, or the group is to be
+    /// started further.
+    Going { call: Option<u64> },
+    /// The base replied to a message. The reply may be received under this number.
+    Carried { reply: u64 },
+    /// The group is ready: calls are served.
+    Ready,
+    /// The group, or for a delivery one of its stores, is not ready for the event. Nothing changed.
+    NotReady,
+    /// What the event asked for failed, with this cause.
+    Failed(Fault),
+    /// There was not the memory. No more was done than to read.
+    NoMemory,
+    /// It was done, and there is no more to tell of it.
+    Set,
+    /// There is no call, message or reply of the number, or the reply is not waited for. Nothing
+    /// changed.
+    Nothing,
+}
+
+/// Why an event failed.
+#[derive(Debug, Drop)]
+pub enum Fault {
+    /// The base did not serve a message, with this fault.
+    Base(BaseFault),
+    /// The base told a want of room with numbers by which there is room. That is no reply, and no
+    /// base over a store that tells does so.
+    Void,
+}
