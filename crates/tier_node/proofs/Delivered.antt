@@ -1,5 +1,5 @@
--- A message that reaches the base, or does not.
-use Rattle.std.proofs.Common.{◌≡◌, inl, inr, ℕ, List, Option, Some, None, Result, refl, sym, subst}
+-- A message that was delivered, as a run of one step or of none.
+use Rattle.std.proofs.Common.{◌≡◌, ℕ, List, Option, Some, None, Result, refl, sym, subst}
 use Rattle.base_pool.specs.declared.fault.BaseFault.{BaseFault}
 use Rattle.tier_core.proofs.StakedThere.{holds_of, sent_is}
 use Rattle.tier_core.specs.Deliveries.{ComesOf, IsDelivered, WasHanded}
@@ -8,9 +8,6 @@ use Rattle.tier_core.specs.declared.delivering.Delivered.TheVariants as delivere
 use Rattle.tier_join.specs.Steps.{act_of}
 use Rattle.tier_node.proofs.Single.{plainly, single, unmoved}
 use Rattle.tier_node.specs.Runs.{IsRun}
-use Rattle.tier_node.specs.Steps.{AreLive, Delivers, HandsOver, Refuses, Where, told_delivered}
-use Rattle.tier_node.specs.declared.outcome.Outcome.{Outcome}
-use Rattle.tier_node.specs.declared.outcome.Outcome.TheVariants.{NotReady, Nothing}
 use Rattle.tier_protocol.specs.Tiers.{IsIn}
 use Rattle.tier_runs.specs.Runs.{MayMake}
 use Rattle.tier_traffic.specs.Messages.{sent_of}
@@ -20,8 +17,6 @@ use Rattle.tier_view.specs.Views.{GroupView}
 use Rattle.tier_view.specs.Whole.{HasOwner}
 use Rattle.tier_view.specs.declared.parts.Owner.{Owner}
 use Rattle.tier_view.specs.declared.parts.Sent.{Sent}
-
--- ---- as a run
 
 -- a Write makes what its owner's request makes
 made_by : (v w : GroupView) (message : BaseMsg) (owner : Option Owner)
@@ -72,27 +67,3 @@ pub delivered_run : (number : ℕ) (v w : GroupView) (d : Delivered) → IsDeliv
     → IsRun v w
 delivered_run number v w d h =
     found_run number v w d (sent_of v.traffic.messages number) refl h
-
--- ---- its outcome
-
-abbrev Deliveries : (number : ℕ) → (v w : GroupView) → Outcome → Option Sent → Type 0
-Deliveries number v w outcome o = elim o [
-  | None ↦ Refuses Nothing v w outcome
-  | Some m ↦ Where (AreLive v.stores) (HandsOver number v w outcome) (Refuses NotReady v w outcome)
-]
-
-pub no_message : (number : ℕ) (v : GroupView) → sent_of v.traffic.messages number ≡ None
-    → Delivers number v v Nothing
-no_message number v none = subst (Deliveries number v v Nothing) (sym none) (refl, refl)
-
-pub message_waits : (number : ℕ) (v : GroupView) (m : Sent)
-    → sent_of v.traffic.messages number ≡ Some m → (AreLive v.stores → ⊥)
-    → Delivers number v v NotReady
-message_waits number v m at not = subst (Deliveries number v v NotReady) (sym at) (inr (not, (refl, refl)))
-
-pub message_goes : (number : ℕ) (v w : GroupView) (m : Sent) (d : Delivered) (outcome : Outcome)
-    → sent_of v.traffic.messages number ≡ Some m → AreLive v.stores → IsDelivered number v w d
-    → outcome ≡ told_delivered d → Delivers number v w outcome
-message_goes number v w m d outcome at live h told =
-    subst (Deliveries number v w outcome) (sym at)
-    (inl (live, record { came = d; comes = h; told = told }))

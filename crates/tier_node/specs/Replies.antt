@@ -19,8 +19,8 @@ abbrev pub is_fence : Option Sent → Bool
 is_fence None = false
 is_fence (Some s) = asks_fence s.message
 
--- What a reply is about, by the message that it answers, where that is not forgotten. A want of room
--- for a Fence has the operation's number 0. The two refusals of an epoch do not say what they
+-- What a reply is about, by the message that it answers, where that is not forgotten. A want of
+-- room for a Fence has the operation's number 0. The two refusals of an epoch do not say what they
 -- answer.
 abbrev pub topic_of : Option Sent → BaseReply → Topic
 topic_of sent (BaseReply.Fenced e) = Fence

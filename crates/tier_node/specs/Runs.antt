@@ -24,8 +24,8 @@ Runs (e ∷ events) old new (o ∷ outcomes) =
     (next : GroupView) × Steps e old next o × IsRun old next × Runs events next new outcomes
 Runs events old new outcomes = ⊥
 
--- Over stores that tell, the group is behind the run one plain object store with each store at which
--- it began, and whatever a stop leaves, in each step, stands for that store.
+-- Over stores that tell, the group is behind the run one plain object store, from each store at
+-- which it began, and whatever a stop leaves, in each step, stands for that store.
 abbrev pub IsOneThroughout : (old new : GroupView) → IsRun old new → Type 0
 IsOneThroughout old new run =
     (start : Store) → BothTell (joined old) → Began start old

@@ -99,8 +99,8 @@ abbrev pub TakesWrite : (number : ℕ) → (old new : GroupView) → Outcome →
 TakesWrite number old new outcome =
     HearsWrote number old new outcome ⊎ Refuses NoMemory old new outcome
 
--- Nothing where there is none. One that answers a Fence is heard; any other is NotReady exactly where
--- the group is not ready.
+-- Nothing where there is none. One that answers a Fence is heard; any other is NotReady exactly
+-- where the group is not ready.
 abbrev pub ReceivesOn : Option Topic → (number : ℕ) → (old new : GroupView) → Outcome → Type 0
 ReceivesOn None number old new outcome = Refuses Nothing old new outcome
 ReceivesOn (Some topic.Fence) number old new outcome = HearsFence number old new outcome
