@@ -16,9 +16,13 @@ use Rattle.tier_node.specs.declared.event.Event.{Event}
 use Rattle.tier_node.specs.declared.event.Event.TheVariants as event
 use Rattle.tier_node.specs.declared.outcome.Fault.TheVariants as fault
 use Rattle.tier_node.specs.declared.outcome.Outcome.{Outcome}
-use Rattle.tier_node.specs.declared.outcome.Outcome.TheVariants.{Answered, Going, Carried, Ready, NotReady, Failed, NoMemory, Set, Nothing}
+use Rattle.tier_node.specs.declared.outcome.Outcome.TheVariants.{Answered, Going, Sent, Carried, Ready, NotReady, Failed, NoMemory, Set, Nothing}
 use Rattle.tier_node.specs.declared.receiving.Topic.{Topic}
 use Rattle.tier_node.specs.declared.receiving.Topic.TheVariants as topic
+use Rattle.tier_stop.specs.Needs.{start_needed}
+use Rattle.tier_stop.specs.Starts.{Starts}
+use Rattle.tier_stop.specs.declared.starting.Started.{Started}
+use Rattle.tier_stop.specs.declared.starting.Started.TheVariants as started
 use Rattle.tier_traffic.specs.Messages.{replied_of, sent_of}
 use Rattle.tier_view.specs.Starts.{forgot_message, forgot_reply, with_base_stopped}
 use Rattle.tier_view.specs.Stops.{with_cache_stopped}
@@ -137,6 +141,23 @@ ForgetsReply number old new outcome = elim (replied_of old.traffic.replies numbe
 abbrev pub Stops : (GroupView → GroupView) → (old new : GroupView) → Outcome → Type 0
 Stops change old new outcome = Sets (change old) new outcome
 
+-- ---- a start
+
+-- what is told of a step of a start for this call
+abbrev pub told_started : (call : Option ℕ) → Started → Outcome
+told_started call started.Ready = Ready
+told_started call started.Going = Going call
+told_started call (started.Sent number) = Sent number
+told_started call (started.Failed f) = Failed (fault.Start f)
+told_started call started.NoMemory = NoMemory
+
+-- the step that was needed first was made, or why it was not
+pub record StartsBy (line call : Option ℕ) (old new : GroupView) (outcome : Outcome) : Type 0
+  where
+    pub came : Started
+    pub starts : Starts (start_needed old) line call old new came
+    pub told : outcome ≡ told_started call came
+
 -- ---- all events
 
 abbrev pub Steps : Event → (old new : GroupView) → Outcome → Type 0
@@ -146,3 +167,4 @@ Steps (event.Forget message) old new outcome = Forgets message old new outcome
 Steps (event.ForgetReply reply) old new outcome = ForgetsReply reply old new outcome
 Steps event.StopCache old new outcome = Stops with_cache_stopped old new outcome
 Steps event.StopBase old new outcome = Stops with_base_stopped old new outcome
+Steps (event.Start line call) old new outcome = StartsBy line call old new outcome

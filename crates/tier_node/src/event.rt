@@ -15,4 +15,10 @@ pub enum Event {
     StopCache,
     /// The base stops.
     StopBase,
+    /// The group is started further, by the step that is needed first. A Fence keeps this line and
+    /// this call.
+    Start {
+        line: Option<u32>,
+        call: Option<u64>,
+    },
 }

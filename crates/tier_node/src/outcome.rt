@@ -1,5 +1,6 @@
 //! What is told of an event.
 use base_pool::BaseFault;
+use tier_stop::StartFault;
 
 /// What is told of an event.
 #[derive(Debug, Drop)]
@@ -9,6 +10,8 @@ pub enum Outcome {
     /// One step more is needed, for this call or for none. The call goes on, or the group is to be
     /// started further.
     Going { call: Option<u64> },
+    /// The message of this number was sent.
+    Sent { message: u64 },
     /// The base replied to a message. The reply may be received under this number.
     Carried { reply: u64 },
     /// The group is ready: calls are served.
@@ -31,6 +34,8 @@ pub enum Outcome {
 pub enum Fault {
     /// The base did not serve a message, with this fault.
     Base(BaseFault),
+    /// A step of a start was not made, with this fault.
+    Start(StartFault),
     /// The base told a want of room with numbers by which there is room. That is no reply, and no
     /// base over a store that tells does so.
     Void,

@@ -7,6 +7,7 @@ ghost use Rattle.tier_view.specs.Stops.{with_cache_stopped};
 use crate::delivering::deliver;
 use crate::forgetting::{forget, forget_reply};
 use crate::receiving::receive;
+use crate::starting::start;
 use crate::{Event, Outcome};
 use store_face::Store;
 use tier_core::Group;
@@ -41,5 +42,6 @@ pub fn step<P: Store>(g: &mut Group<P>, event: &Event) -> Outcome
         Event::ForgetReply { reply } => forget_reply(g, *reply),
         Event::StopCache => stop_cache(g),
         Event::StopBase => stop_base(g),
+        Event::Start { line, call } => start(g, *line, *call),
     }
 }
