@@ -4,13 +4,21 @@
 #[derive(Clone, Copy, Debug, PartialEq, Eq)]
 pub enum Event {
     /// The message of this number reaches the base. It stays, and may be delivered again.
-    Deliver { message: u64 },
+    Deliver {
+        message: u64,
+    },
     /// The reply of this number is received.
-    Receive { reply: u64 },
+    Receive {
+        reply: u64,
+    },
     /// The message of this number is lost.
-    Forget { message: u64 },
+    Forget {
+        message: u64,
+    },
     /// The reply of this number is lost.
-    ForgetReply { reply: u64 },
+    ForgetReply {
+        reply: u64,
+    },
     /// The cache stops.
     StopCache,
     /// The base stops.
