@@ -1,12 +1,11 @@
 -- A group that is attached.
-use Rattle.std.specs.Prelude.{◌≡◌, None, Err}
+use Rattle.std.specs.Prelude.{◌≡◌, None, Ok, Err}
 use Rattle.agent_state.specs.Modes.{idle_modes}
 use Rattle.base_pool.specs.Opens.{ReadsEpoch}
 use Rattle.base_pool.specs.Views.{BaseView, SoundBase}
 use Rattle.obj_ops.specs.Stores.{Store}
 use Rattle.pool_survey.specs.Surveys.{AreSumsOf, BothStay, InBoth, IsSurvey, Surveys}
 use Rattle.pool_survey.specs.declared.told.Survey.{Survey}
-use Rattle.store_face.specs.Calls.{Stays}
 use Rattle.store_face.specs.Views.{Holds, Sound, StoreView}
 use Rattle.tier_core.specs.Parts.{seen_base}
 use Rattle.tier_core.specs.declared.attaching.AttachFault.{AttachFault}
@@ -67,10 +66,10 @@ pub record Attaches (cache base : StoreView) (setup : Setup) (g : GroupView) : T
       → StandThere start g.stores.cache g.stores.base g.standing.cache_epoch g.standing.base_epoch
       → Began start g
 
--- No group is attached: what the two stores hold is told, as far as it was read; or the base's
--- epoch could not be read again behind that.
+-- No group is attached: what the two stores hold is told, as far as it was read; or both stand for
+-- a plain store, and the base's epoch could not be read again behind that.
 abbrev pub Refuses : (cache caches base bases : StoreView) → AttachFault → Type 0
 Refuses cache caches base bases (fault.Survey f) = Surveys cache caches base bases (Err f)
 Refuses cache caches base bases (fault.Base f) =
-    Stays cache caches × ((between : StoreView) × Stays base between
-    × ReadsEpoch between bases (Err f))
+    (told : Survey) × (between : StoreView) × Surveys cache caches base between (Ok told)
+    × ReadsEpoch between bases (Err f)
