@@ -12,7 +12,7 @@ use Rattle.tier_view.specs.Laws.{Keeps}
 use Rattle.tier_view.specs.Views.{GroupView}
 use Rattle.tier_view.proofs.Serving.{actless_keeps}
 use Rattle.tier_core.specs.Reads.{ReadsHere}
-use Rattle.tier_core.specs.Serves.{MayBeServed, Serves, ServesAsk, ServesHit, served_as, with_ask}
+use Rattle.tier_core.specs.Serves.{IsBare, MayBeServed, Serves, ServesAsk, ServesHit, served_as, with_ask}
 use Rattle.tier_core.specs.Turns.{IsTurn}
 use Rattle.tier_core.specs.declared.serving.Served.{Served}
 use Rattle.tier_core.specs.declared.turns.Turn.{Turn}
@@ -94,3 +94,8 @@ module _ (name : List ℕ) (turn : Turn) (ask : Ask) (u v : GroupView) (is : nam
     serving = step;
     step = both (Ok rec) w read step;
   }
+
+-- a call that came to a record says nothing of a name without one
+pub served_is_not_bare : (v : GroupView) (name : List ℕ) (made : Outcome) → IsBare v name (served_as made)
+served_is_not_bare v name (Ok done) = tt
+served_is_not_bare v name (Err fault) = tt

@@ -158,6 +158,11 @@ ServesRead turn ask (Err fault) old new result = (result ≡ Served.Unread fault
 ServesRead turn ask (Ok None) old new result = (result ≡ Served.Absent) × (new ≡ old)
 ServesRead turn ask (Ok (Some held)) old new result = ServesHit turn ask held old new result
 
+-- where there is no record, the cache has none of this name
+abbrev pub IsBare : GroupView → (name : List ℕ) → Served → Type 0
+IsBare v name Served.Absent = HasRec (joined v) name None
+IsBare v name other = Unit {0}
+
 -- A client's call is served: the record of its name is read, which is a step that changes nothing
 -- but the cache's store; and from there what was read decides, in one step more. Both are one step
 -- too, since the reading commits nothing and answers nobody.

@@ -7,7 +7,7 @@ ghost use Rattle.obj_ops.specs.Acts.{act, look, state_after};
 ghost use Rattle.obj_ops.specs.declared.request.Acted.TheVariants.{Fresh};
 ghost use Rattle.tier_chron.specs.declared.asked.Asked.TheVariants.{Read};
 ghost use Rattle.tier_core.specs.Ends.{IsEnded};
-ghost use Rattle.tier_core.specs.Serves.{Answers, IsHit, IsUnacted, MayBeServed, MayWriteHere, Serves, ServesAsk, ServesWrite, answered_here, as_outcome, asked_of, served_as, with_ask};
+ghost use Rattle.tier_core.specs.Serves.{Answers, IsBare, IsHit, IsUnacted, MayBeServed, MayWriteHere, Serves, ServesAsk, ServesWrite, answered_here, as_outcome, asked_of, served_as, with_ask};
 ghost use Rattle.tier_core.specs.Turns.{IsTurn};
 ghost use Rattle.tier_join.specs.Promises.{as_it_is, with_req};
 ghost use Rattle.tier_join.specs.Steps.{HasRec};
@@ -283,7 +283,8 @@ impl<P: Store> Group<P> {
         requires settled { self.old.stores.pending ≡ None }
         requires turn { IsTurn self.old turn (asked_of ask.now) }
         requires may { MayBeServed self.old turn.call ask.now }
-        ensures { Serves turn ask.now self.old self.new result }
+        ensures serves { Serves turn ask.now self.old self.new result }
+        ensures bare { IsBare self.new (name_asked ask.now) result }
     {
         match self.read_here(name_asked(ask)) {
             Err(fault) => Served::Unread(fault),
