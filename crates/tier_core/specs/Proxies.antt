@@ -1,6 +1,7 @@
 -- A write request that goes to the base.
-use Rattle.std.specs.Prelude.{◌≡◌, ◌+◌, ℕ, Some, None}
+use Rattle.std.specs.Prelude.{◌≡◌, ◌<◌, ◌+◌, ℕ, Some, None}
 use Rattle.std.specs.FinMap as fin
+use Rattle.obj_model.specs.Limits.{number_limit}
 use Rattle.obj_model.specs.declared.req.Req.{Req}
 use Rattle.tier_chron.specs.Shapes.{HasNoAct}
 use Rattle.tier_chron.specs.declared.asked.Asked.TheVariants.{Write}
@@ -41,6 +42,7 @@ write_begun turn r v =
 pub record MayGo (v : GroupView) (turn : Turn) (r : Req) : Type 0 where
   pub settled : v.stores.pending ≡ None
   pub up : v.standing.phase ≡ Phase.Up
+  pub low : v.standing.next_opid < number_limit
   pub turn_is : IsTurn v turn (Write r)
   pub first : HasNoAct turn.call v.log.acts
   pub idle : IsIdle turn.call v.traffic.flights
