@@ -3,7 +3,6 @@ use Rattle.std.proofs.Common.{◌≡◌, ◌<◌, ◌≤◌, ℕ, ◌+◌, ◌*�
 use Rattle.std.specs.Prelude.{T, ◌&&◌, filter}
 use Rattle.std.specs.FinMap as fin
 use Rattle.std.specs.FinMap.{entries_sorted}
-use Rattle.std.specs.FinMap.Entries.{below_all, is_sorted}
 use Rattle.std.specs.List.{AllByRecursion}
 use Rattle.std.specs.List.Sorted.{IsStrictlySortedBy}
 use Rattle.std.specs.Ordering.{is_lt, ordering_reverse}
@@ -20,6 +19,8 @@ use Rattle.obj_model.specs.declared.out.Pair.{Pair}
 use Rattle.obj_model.specs.declared.out.Out.TheVariants.{Pairs}
 use Rattle.obj_model.specs.declared.reply.Why.{Why}
 use Rattle.obj_model.specs.declared.state.Obj.{Obj}
+use Rattle.obj_model.proofs.Rising as rising
+use Rattle.obj_model.proofs.Rising.{above_more, not_back, not_itself, rise_of}
 use Rattle.obj_ops.specs.Effects.{empty_obj, page, pair_of}
 use Rattle.obj_ops.specs.Ops.{Step}
 use Rattle.obj_laws.specs.Pages.{AreInTurn, EndShort, FullPagesAreFew, IsPage, KeysRise, PagesTellAll, PagesTellEachOnce, Reading, ReadingEnds, ShortPageIsLast, all_told, last_key, pairs_above}
@@ -27,53 +28,16 @@ use Rattle.obj_laws.specs.Pages.{AreInTurn, EndShort, FullPagesAreFew, IsPage, K
 abbrev Entry : Type 0
 Entry = List ℕ × List ℕ
 
-less : (o : Ordering) → is_lt o ≡ true → o ≡ Less
-less Less h = refl
-less Equal h = absurd (cc)
-less Greater h = absurd (cc)
-
-below_of_test : (o : Ordering) → T (is_lt o) → o ≡ Less
-below_of_test Less h = refl
-below_of_test Equal h = absurd h
-below_of_test Greater h = absurd h
-
-first : (a b : Bool) → T (a && b) → T a
-first true b h = tt
-first false b h = h
-
-second : (a b : Bool) → T (a && b) → T b
-second true b h = h
-second false b h = absurd h
-
 -- the keys of these entries are above a key
 abbrev Over : List ℕ → List Entry → Type 0
 Over k es = AllByRecursion (λ q. name_cmp k q ≡ Less) (map (λ e. e.0) es)
 
 -- the keys of these entries rise
 abbrev Rise : List Entry → Type 0
-Rise [] = Unit {0}
-Rise (e ∷ es) = Over e.0 es × Rise es
-
-over_of : (k : List ℕ) (es : List Entry) → T (below_all name_cmp k es) → Over k es
-over_of k [] h = tt
-over_of k (e ∷ es) h = (below_of_test _ (first _ _ h), over_of k es (second _ _ h))
-
-rise_of : (es : List Entry) → T (is_sorted name_cmp es) → Rise es
-rise_of [] h = tt
-rise_of (e ∷ es) h = (over_of e.0 es (first _ _ h), rise_of es (second _ _ h))
+Rise es = rising.Rise (map (λ e. e.0) es)
 
 rise_entries : (t : Table) → Rise (fin.entries t)
 rise_entries t = rise_of (fin.entries t) (entries_sorted t)
-
-not_above_itself : (k : List ℕ) → is_above (Some k) k ≡ false
-not_above_itself k = ap is_lt (tied_itself nat_list_cmp_total k)
-
-not_above_later : (k q : List ℕ) → name_cmp k q ≡ Less → is_above (Some q) k ≡ false
-not_above_later k q h = ap is_lt (nat_list_cmp_total.antisymm q k ∙ ap ordering_reverse h)
-
-above_more : (after : Option (List ℕ)) (k q : List ℕ) → is_above after k ≡ true → name_cmp k q ≡ Less → is_above after q ≡ true
-above_more None k q h lt = refl
-above_more (Some a) k q h lt = ap is_lt (nat_list_cmp_total.trans a k q (less (name_cmp a k) h) lt)
 
 abbrev kept : Option (List ℕ) → List Entry → List Entry
 kept after es = filter (λ e. is_above after e.0) es
@@ -109,10 +73,10 @@ above_first after (x ∷ xs) e rest rise =
     let same : x ≡ e = cc in
     let left : kept after xs ≡ rest = cc in
     subst (λ (y : Entry). kept (Some y.0) (x ∷ xs) ≡ rest) same
-    (rw (not_above_itself x.0) (all_over x.0 xs rise.0 ∙ sym (all_kept after x.0 xs g rise.0) ∙ left)))
+    (rw (not_itself x.0) (all_over x.0 xs rise.0 ∙ sym (all_kept after x.0 xs g rise.0) ∙ left)))
     (λ g there.
     let low : name_cmp x.0 e.0 ≡ Less = head_over x.0 e rest (kept after xs) there (kept_over after x.0 xs rise.0) in
-    rw (not_above_later x.0 e.0 low) (above_first after xs e rest rise.1 there))
+    rw (not_back x.0 e.0 low) (above_first after xs e rest rise.1 there))
 
 -- what is above the last key of so many of these entries is the rest of them
 abbrev Leaves : Table → ℕ → Option (List ℕ) → List Entry → Type 0

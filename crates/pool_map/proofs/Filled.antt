@@ -9,8 +9,7 @@ use Rattle.std.specs.Ordering.{is_eq, is_lt, eq_by_cmp}
 use Rattle.std.specs.Cmp.{tied_itself}
 use Rattle.std.specs.Cmp.Lexicographic.{nat_list_cmp_total}
 use Rattle.std.specs.FinMap as fin
-use Rattle.std.specs.FinMap.{from_entries, find, entries, is_sorted, entries_sorted, get-entries, get-from_entries, get-insert, get-remove, get-empty, same_map, slice_cmp-IsAntisymmetric, nat_cmp-IsAntisymmetric}
-use Rattle.std.specs.FinMap.Entries.{below_all}
+use Rattle.std.specs.FinMap.{from_entries, find, entries, get-entries, get-from_entries, get-insert, get-remove, get-empty, same_map, slice_cmp-IsAntisymmetric, nat_cmp-IsAntisymmetric}
 use Rattle.std.specs.List.{All, AllByRecursion}
 use Rattle.std.specs.List.Sorted.{IsStrictlySortedBy}
 use Rattle.std.specs.Option.{option_flatten, option_copied}
@@ -18,8 +17,10 @@ use Rattle.obj_model.specs.Names.{name_cmp}
 use Rattle.obj_model.specs.declared.change.Change.{Change}
 use Rattle.obj_model.specs.declared.change.Change.TheVariants.{Put, Remove}
 use Rattle.obj_model.proofs.NameMaps.{kept_entries}
+use Rattle.obj_model.proofs.Rising.{entries_rise}
 use Rattle.obj_model.specs.Changes.{AreApart, key_of}
-use Rattle.store_face.specs.Tables.{Table, changed, is_above, keys_above}
+use Rattle.obj_model.specs.Tables.{is_above}
+use Rattle.store_face.specs.Tables.{Table, changed, keys_above}
 use Rattle.pool_map.specs.Slots.{SlotMap, filled, with_values, slots_after, HasRoom, rows}
 use Rattle.pool_map.proofs.Rows.{rising_rows}
 
@@ -69,40 +70,16 @@ find_values q (r ∷ rs) rise =
       ]
     ]
 
-less : (o : Ordering) → T (is_lt o) → o ≡ Less
-less Less p = refl
-less Equal p = absurd p
-less Greater p = absurd p
-
-first : (a b : Bool) → T (a && b) → T a
-first true b p = tt
-first false b p = p
-
-second : (a b : Bool) → T (a && b) → T b
-second true b p = p
-second false b p = absurd p
-
-below_of : {X : Type 0} (k : Key) (es : List (Key × X)) → T (below_all name_cmp k es) → Below k es
-below_of k [] h = tt
-below_of k (e ∷ es) h = (less _ (first _ _ h), below_of k es (second _ _ h))
-
-rising_of : {X : Type 0} (es : List (Key × X)) → T (is_sorted name_cmp es) → IsStrictlySortedBy name_cmp (map (λ e. e.0) es)
-unfolding IsStrictlySortedBy
-rising_of [] h = tt
-rising_of (e ∷ es) h = (below_of e.0 es (first _ _ h), rising_of es (second _ _ h))
-
-rising_entries : (m : SlotMap) → IsStrictlySortedBy name_cmp (map (λ e. e.0) (entries m))
-rising_entries m = rising_of (entries m) (entries_sorted m)
 
 -- what the map has at a key: its slot's value
 pub filled_get : (m : SlotMap) (q : Key) → fin.get (filled m) q ≡ option_flatten (fin.get m q)
 unfolding filled
-filled_get m q = get-from_entries nat_list_cmp_total (with_values (entries m)) q ∙ find_values q (entries m) (rising_entries m) ∙ ap option_flatten (sym (get-entries m q))
+filled_get m q = get-from_entries nat_list_cmp_total (with_values (entries m)) q ∙ find_values q (entries m) (entries_rise m) ∙ ap option_flatten (sym (get-entries m q))
 
 -- the map's keys are those of the slots with a value
 pub filled_entries : (m : SlotMap) → fin.entries (filled m) ≡ with_values (entries m)
 unfolding filled
-filled_entries m = kept_entries (with_values (entries m)) (rising_values (entries m) (rising_entries m))
+filled_entries m = kept_entries (with_values (entries m)) (rising_values (entries m) (entries_rise m))
 
 same : (s t : Table) → ((q : Key) → fin.get s q ≡ fin.get t q) → s ≡ t
 same s t = same_map nat_list_cmp_total (slice_cmp-IsAntisymmetric nat_cmp-IsAntisymmetric) s t

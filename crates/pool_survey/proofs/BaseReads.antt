@@ -8,7 +8,8 @@ use Rattle.pool_keys.specs.Values.{IsEpochOf, SpellsEpoch}
 use Rattle.rec_codec.specs.Spelling.{SpellsState}
 use Rattle.rec_codec.proofs.Whole.{states_apart}
 use Rattle.store_face.specs.Calls.{Stays}
-use Rattle.store_face.specs.Tables.{Table, is_above}
+use Rattle.obj_model.specs.Tables.{is_above}
+use Rattle.store_face.specs.Tables.{Table}
 use Rattle.store_face.specs.Views.{Holds, StoreView}
 use Rattle.pool_survey.specs.Causes.{IsBaseEntry}
 use Rattle.pool_survey.specs.Places.{IsLast, IsNext, IsPage, IsSaid, is_within}

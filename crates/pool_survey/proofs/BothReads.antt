@@ -5,7 +5,8 @@ use Rattle.obj_model.specs.declared.change.Pool.TheVariants.{Cache, Base}
 use Rattle.pool_keys.specs.Keys.{epoch_key, record_key, state_key}
 use Rattle.pool_keys.specs.Maps.{IsBaseMap, IsCacheMap}
 use Rattle.store_face.specs.Calls.{Stays}
-use Rattle.store_face.specs.Tables.{Table, is_above}
+use Rattle.obj_model.specs.Tables.{is_above}
+use Rattle.store_face.specs.Tables.{Table}
 use Rattle.store_face.specs.Views.{Holds, StoreView}
 use Rattle.tier_types.specs.declared.record.TierRec.{TierRec}
 use Rattle.pool_survey.specs.Causes.{AreLevel, FitsAt, IsBaseEntry, IsCacheEntry, IsFirstUnsound, IsFirstWrong}

@@ -2,7 +2,6 @@
 use Rattle.std.proofs.Common.{◌≡◌, inl, inr, ℕ, zero, suc, T, Bool, true, false, cond, ◌&&◌, List, [], ◌∷◌, length, map, take, Option, Some, None, refl, sym, ap, subst, ◌∙◌}
 use Rattle.std.specs.Prelude.{filter}
 use Rattle.std.specs.FinMap as fin
-use Rattle.std.specs.FinMap.Entries.{below_all, is_sorted}
 use Rattle.std.specs.List.{AllByRecursion}
 use Rattle.std.specs.Ordering.{eq_by_cmp, is_eq, is_lt, ordering_reverse}
 use Rattle.std.specs.Cmp.{Equal-is, tied_itself}
@@ -10,67 +9,21 @@ use Rattle.std.specs.Cmp.Lexicographic.{nat_list_cmp_total}
 use Rattle.std.specs.declared.cmp.Ordering.{Ordering}
 use Rattle.std.specs.declared.cmp.Ordering.TheVariants.{Less, Equal, Greater}
 use Rattle.obj_model.specs.Names.{name_cmp}
-use Rattle.store_face.specs.Tables.{is_above}
+pub use Rattle.obj_model.proofs.Rising.{Over, Rise, above_more, is_lower, not_back, not_itself, rise_of}
+use Rattle.obj_model.specs.Tables.{is_above}
 use Rattle.tier_types.specs.Flights.{IsIn}
 
 abbrev pub Key : Type 0
 Key = List ℕ
-
-less : (o : Ordering) → is_lt o ≡ true → o ≡ Less
-less Less h = refl
-less Equal h = absurd (cc)
-less Greater h = absurd (cc)
-
-below_of_test : (o : Ordering) → T (is_lt o) → o ≡ Less
-below_of_test Less h = refl
-below_of_test Equal h = absurd h
-below_of_test Greater h = absurd h
-
-first : (a b : Bool) → T (a && b) → T a
-first true b h = tt
-first false b h = h
-
-second : (a b : Bool) → T (a && b) → T b
-second true b h = h
-second false b h = absurd h
 
 -- ---- the order of keys
 
 pub lower : (a b : Key) → name_cmp a b ≡ Less → is_above (Some a) b ≡ true
 lower a b h = ap is_lt h
 
-pub is_lower : (a b : Key) → is_above (Some a) b ≡ true → name_cmp a b ≡ Less
-is_lower a b h = less (name_cmp a b) h
-
-pub not_itself : (a : Key) → is_above (Some a) a ≡ false
-not_itself a = ap is_lt (tied_itself nat_list_cmp_total a)
-
-pub not_back : (a b : Key) → name_cmp a b ≡ Less → is_above (Some b) a ≡ false
-not_back a b h = ap is_lt (nat_list_cmp_total.antisymm b a ∙ ap ordering_reverse h)
-
--- what is above a key is above those below it
-pub above_more : (p : Option Key) (a b : Key) → is_above p a ≡ true → name_cmp a b ≡ Less → is_above p b ≡ true
-above_more None a b h lt = refl
-above_more (Some k) a b h lt = ap is_lt (nat_list_cmp_total.trans k a b (less (name_cmp k a) h) lt)
-
 -- ---- keys that rise
 
-abbrev pub Over : Key → List Key → Type 0
-Over k ks = AllByRecursion (λ q. name_cmp k q ≡ Less) ks
-
-abbrev pub Rise : List Key → Type 0
-Rise [] = Unit {0}
-Rise (k ∷ ks) = Over k ks × Rise ks
-
 module _ {V : Type 0} where
-  over_of : (k : Key) (es : List (Key × V)) → T (below_all name_cmp k es) → Over k (map (λ e. e.0) es)
-  over_of k [] h = tt
-  over_of k (e ∷ es) h = (below_of_test _ (first _ _ h), over_of k es (second _ _ h))
-
-  pub rise_of : (es : List (Key × V)) → T (is_sorted name_cmp es) → Rise (map (λ e. e.0) es)
-  rise_of [] h = tt
-  rise_of (e ∷ es) h = (over_of e.0 es (first _ _ h), rise_of es (second _ _ h))
-
   -- a key that has a value is one of the keys
   key_in : (b : Bool) (k : Key) (e : Key × V) (es : List (Key × V)) (v : V) → eq_by_cmp name_cmp k e.0 ≡ b
       → (fin.find name_cmp k es ≡ Some v → IsIn k (map (λ e. e.0) es)) → cond b (Some e.1) (fin.find name_cmp k es) ≡ Some v

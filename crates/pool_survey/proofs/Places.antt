@@ -3,7 +3,8 @@ use Rattle.std.proofs.Common.{◌≡◌, ◌⊎◌, inl, inr, Bool, true, false,
 use Rattle.std.specs.FinMap as fin
 use Rattle.std.specs.declared.cmp.Ordering.TheVariants.{Less}
 use Rattle.obj_model.specs.Names.{name_cmp}
-use Rattle.store_face.specs.Tables.{Table, is_above, keys_above}
+use Rattle.obj_model.specs.Tables.{is_above}
+use Rattle.store_face.specs.Tables.{Table, keys_above}
 use Rattle.tier_types.specs.Flights.{IsIn}
 use Rattle.pool_survey.specs.Causes.{IsFirstWrong}
 use Rattle.pool_survey.specs.Places.{AreRight, IsLast, IsNext, IsPage, IsSaid, is_within}

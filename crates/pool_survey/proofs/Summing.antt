@@ -13,7 +13,8 @@ use Rattle.pool_keys.specs.Maps.{Recs, SpellsCache}
 use Rattle.pool_keys.specs.Values.{IsRecOf}
 use Rattle.pool_keys.proofs.Caches.{record_one}
 use Rattle.store_face.specs.Limits.{IsPoolMap}
-use Rattle.store_face.specs.Tables.{Table, is_above}
+use Rattle.obj_model.specs.Tables.{is_above}
+use Rattle.store_face.specs.Tables.{Table}
 use Rattle.tier_rec.specs.Records.{totals_after}
 use Rattle.tier_types.specs.Flights.{IsIn}
 use Rattle.tier_types.specs.declared.record.TierRec.{TierRec}

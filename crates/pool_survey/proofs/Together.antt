@@ -11,7 +11,8 @@ use Rattle.obj_model.specs.declared.state.NameState.{NameState}
 use Rattle.pool_keys.specs.Keys.{record_key, state_key}
 use Rattle.pool_keys.specs.Values.{IsRecOf, IsStateOf}
 use Rattle.pool_keys.proofs.Caches.{record_one}
-use Rattle.store_face.specs.Tables.{Table, is_above}
+use Rattle.obj_model.specs.Tables.{is_above}
+use Rattle.store_face.specs.Tables.{Table}
 use Rattle.tier_types.specs.declared.record.TierRec.{TierRec}
 use Rattle.pool_survey.specs.Causes.{ClashesAt, Clashes, Fits, FitsAt, HaveOf, IsBaseEntry, IsFirstUnsound}
 use Rattle.pool_survey.specs.Places.{AreRight, IsLast, IsNext, is_within}

@@ -4,7 +4,8 @@ use Rattle.std.specs.FinMap as fin
 use Rattle.std.specs.Ordering.{is_lt}
 use Rattle.std.specs.declared.cmp.Ordering.TheVariants.{Less}
 use Rattle.obj_model.specs.Names.{name_cmp}
-use Rattle.store_face.specs.Tables.{Table, is_above, keys_above}
+use Rattle.obj_model.specs.Tables.{is_above}
+use Rattle.store_face.specs.Tables.{Table, keys_above}
 
 -- a key is not above the bound, where there is one
 abbrev pub is_within : Option (List ℕ) → List ℕ → Bool

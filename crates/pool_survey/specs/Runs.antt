@@ -11,7 +11,8 @@ use Rattle.pool_keys.specs.Maps.{Recs, SpellsCache}
 use Rattle.pool_keys.specs.Values.{IsEpochOf, SpellsEpoch}
 use Rattle.rec_codec.specs.Spelling.{SpellsState}
 use Rattle.store_face.specs.Calls.{ReadFails, Stays}
-use Rattle.store_face.specs.Tables.{Table, is_above}
+use Rattle.obj_model.specs.Tables.{is_above}
+use Rattle.store_face.specs.Tables.{Table}
 use Rattle.store_face.specs.Views.{Holds, StoreView}
 use Rattle.tier_rec.specs.Records.{totals_after}
 use Rattle.tier_types.specs.declared.record.TierRec.{TierRec}

@@ -8,10 +8,11 @@ use Rattle.std.specs.declared.cmp.Ordering.TheVariants.{Less, Equal, Greater}
 use Rattle.std.specs.Cmp.{IsTotalOrder}
 use Rattle.std.specs.Cmp.Lexicographic.{nat_list_cmp_total}
 use Rattle.std.specs.FinMap as fin
-use Rattle.std.specs.FinMap.{put, is_sorted, entries_sorted, entries-insert, same_entries_map}
-use Rattle.std.specs.FinMap.Entries.{by_order, below_all}
+use Rattle.std.specs.FinMap.{put, entries-insert}
+use Rattle.std.specs.FinMap.Entries.{by_order}
 use Rattle.obj_model.specs.Names.{name_cmp}
 use Rattle.obj_model.proofs.NameMaps.{kept_entries}
+pub use Rattle.obj_model.proofs.Rising.{entries_rise, made_of_entries}
 use Rattle.rec_codec.specs.Spelling.{Entry}
 use Rattle.rec_codec.proofs.Readers.{Each}
 
@@ -48,38 +49,8 @@ module _ {A K : Type 0} (L : A → Type 0) (key : A → K) (test : K → K → B
 
 -- ---- the entries of a table
 
-first : (a b : Bool) → T (a && b) → T a
-first true b p = tt
-first false b p = absurd p
-
-second : (a b : Bool) → T (a && b) → T b
-second true b p = p
-second false b p = absurd p
-
-less : (o : Ordering) → T (is_lt o) → o ≡ Less
-less Less p = refl
-less Equal p = absurd p
-less Greater p = absurd p
-
-all_above : (k : List ℕ) (es : List Entry) → T (below_all name_cmp k es) → AllByRecursion (λ y. name_cmp k y ≡ Less) (map (λ e. e.0) es)
-all_above k [] h = tt
-all_above k (e ∷ es) h = (less (name_cmp k e.0) (first (is_lt (name_cmp k e.0)) (below_all name_cmp k es) h), all_above k es (second (is_lt (name_cmp k e.0)) (below_all name_cmp k es) h))
-
-rising_from_test : (es : List Entry) → T (is_sorted name_cmp es) → IsStrictlySortedBy name_cmp (map (λ e. e.0) es)
-unfolding IsStrictlySortedBy
-rising_from_test [] h = tt
-rising_from_test (e ∷ es) h = (all_above e.0 es (first (below_all name_cmp e.0 es) (is_sorted name_cmp es) h), rising_from_test es (second (below_all name_cmp e.0 es) (is_sorted name_cmp es) h))
-
 abbrev pub Table : Type 0
 Table = fin.FinMap name_cmp (List ℕ)
-
--- the keys of a table rise
-pub entries_rise : (t : Table) → IsStrictlySortedBy name_cmp (map (λ e. e.0) (fin.entries t))
-entries_rise t = rising_from_test (fin.entries t) (entries_sorted t)
-
--- a table is what its entries make
-pub made_of_entries : (t : Table) → fin.from_entries (fin.entries t) ≡ t
-made_of_entries t = same_entries_map (fin.from_entries (fin.entries t)) t (kept_entries (fin.entries t) (entries_rise t))
 
 nothing_rises : IsStrictlySortedBy name_cmp []
 unfolding IsStrictlySortedBy

@@ -1,8 +1,8 @@
 -- Pool maps, and changes of them.
-use Rattle.std.specs.Prelude.{ℕ, List, [], ◌∷◌, filter, Bool, true, Option, Some, None}
+use Rattle.std.specs.Prelude.{ℕ, List, [], ◌∷◌, filter, Option}
 use Rattle.std.specs.FinMap as fin
-use Rattle.std.specs.Ordering.{is_lt}
 use Rattle.obj_model.specs.Names.{name_cmp}
+use Rattle.obj_model.specs.Tables.{is_above}
 use Rattle.obj_model.specs.declared.change.Change.{Change}
 use Rattle.obj_model.specs.declared.change.Change.TheVariants.{Put, Remove}
 
@@ -19,11 +19,6 @@ changed t (Remove key) = fin.remove t key
 abbrev pub changed_by : Table → List Change → Table
 changed_by t [] = t
 changed_by t (c ∷ cs) = changed_by (changed t c) cs
-
--- a key is above the bound, where there is one
-abbrev pub is_above : Option (List ℕ) → List ℕ → Bool
-is_above None key = true
-is_above (Some bound) key = is_lt (name_cmp bound key)
 
 -- the keys of a map above the bound, in the order of their bytes
 abbrev pub keys_above : Option (List ℕ) → Table → List (List ℕ)
