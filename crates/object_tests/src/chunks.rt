@@ -1,25 +1,41 @@
 //! States in chunks: where they stand, what they bring, and what a gather makes of them.
-use crate::tools::{name, number, row, show_bytes, show_obj};
+use crate::tools::{
+    agree, counted, empty_object, filled, given, name, number, row, show_bytes, show_obj, some,
+    words,
+};
 use copy_chunk::{Added, Chunk, Cursor, Gather, Part, chunk_of};
-use obj_model::{Bytes, Kept, KeptList, Name, NameMap, NameState, Obj, PairMap, Reply};
+use obj_model::{Kept, KeptList, Name, NameState, Obj, PairMap, Reply};
 use std::alloc::Global;
 use std::fmt::Write;
+use std::process::Abort;
 use std::test::Fail;
 
-// A table of the keys k10, k11 and so on, in the words NUMBER*LENGTH; `-` is an empty one.
-fn table(alloc: Global, word: &str) -> Result<PairMap, Fail> {
-    let mut table = NameMap::new(alloc);
+// Puts the key of this number, with a value of so many bytes.
+fn put_entry(alloc: Global, table: &mut PairMap, at: u64, size: u64) -> Result<(), Fail> {
+    let key = name(alloc, format!(in alloc; "k{at}")?.as_str())?;
+    let value = filled(alloc, b'v', size)?;
+    given(table.insert(key, value), "memory")?;
+    Ok(())
+}
+
+// Puts the keys k10, k11 and so on, in the words NUMBER*LENGTH; `-` is none.
+fn fill_table(alloc: Global, table: &mut PairMap, word: &str) -> Result<(), Fail> {
     let Some((count, size)) = word.split_once('*') else {
-        return Ok(table);
+        return Ok(());
     };
-    let size = number(size)? as usize;
+    let size = number(size)?;
     for at in 0..number(count)? {
-        let key = format!(in alloc; "k{}", at.saturating_add(10))?;
-        let value = Bytes::from_vec(vec![in alloc; b'v'; size]?);
-        let put = table.insert(name(alloc, key.as_str())?, value);
-        put.ok().ok_or("memory")?;
+        put_entry(alloc, table, at.saturating_add(10), size)?;
     }
-    Ok(table)
+    Ok(())
+}
+
+// Gives an object what the words BODY ATTRIBUTES OMAP say.
+fn fill_object(alloc: Global, obj: &mut Obj, size: &str, tables: &str) -> Result<(), Fail> {
+    let (attrs, omap) = words(tables);
+    obj.body = filled(alloc, b'x', number(size)?)?;
+    fill_table(alloc, &mut obj.attrs, attrs)?;
+    fill_table(alloc, &mut obj.omap, omap)
 }
 
 // An object in the words BODY ATTRIBUTES OMAP, or `none`.
@@ -27,28 +43,38 @@ fn object(alloc: Global, text: &str) -> Result<Option<Obj>, Fail> {
     let Some((size, tables)) = text.split_once(' ') else {
         return Ok(None);
     };
-    let (attrs, omap) = tables.split_once(' ').ok_or("two tables")?;
-    Ok(Some(Obj {
-        body: Bytes::from_vec(vec![in alloc; b'x'; number(size)? as usize]?),
-        attrs: table(alloc, attrs)?,
-        omap: table(alloc, omap)?,
-    }))
+    let mut obj = empty_object(alloc);
+    fill_object(alloc, &mut obj, size, tables)?;
+    Ok(Some(obj))
+}
+
+// The request that each state keeps.
+fn kept(alloc: Global) -> Result<KeptList, Fail> {
+    let kept = Kept {
+        client: 7,
+        tid: 2,
+        reply: Reply::Done { ver: 3 },
+    };
+    Ok(KeptList::from_vec(vec![in alloc; kept]?))
 }
 
 // A state of version 3 with this object and one kept request.
 fn state(alloc: Global, text: &str) -> Result<NameState, Fail> {
-    let mut seen = Vec::new(alloc);
-    seen.push(Kept {
-        client: 7,
-        tid: 2,
-        reply: Reply::Done { ver: 3 },
-    })?;
+    let seen = kept(alloc)?;
     Ok(NameState {
         ver: 3,
         seq: 5,
         obj: object(alloc, text)?,
-        seen: KeptList::from_vec(seen),
+        seen,
     })
+}
+
+// The key behind a colon, if there is one, and what stands in front of it.
+fn keyed(alloc: Global, word: &str) -> Result<(&str, Option<Name>), Fail> {
+    match word.split_once(':') {
+        None => Ok((word, None)),
+        Some((kind, key)) => Ok((kind, Some(name(alloc, key)?))),
+    }
 }
 
 // A place: `head`, `bodyN`, `attrs`, `attrs:KEY`, `omap`, `omap:KEY` or `seen`.
@@ -56,10 +82,7 @@ fn place(alloc: Global, word: &str) -> Result<Cursor, Fail> {
     if let Some(off) = word.strip_prefix("body") {
         return Ok(Cursor::Body(number(off)?));
     }
-    let (kind, key) = match word.split_once(':') {
-        None => (word, None),
-        Some((kind, key)) => (kind, Some(name(alloc, key)?)),
-    };
+    let (kind, key) = keyed(alloc, word)?;
     match kind {
         "head" => Ok(Cursor::Head),
         "attrs" => Ok(Cursor::Attrs(key)),
@@ -105,19 +128,23 @@ fn show_part(text: &mut String, part: &Part) -> Result<(), Fail> {
     Ok(())
 }
 
+// The place of the next chunk, if there is one.
+fn show_next(text: &mut String, next: &Option<Cursor>) -> Result<(), Fail> {
+    if let Some(next) = next {
+        text.push_str(", then ")?;
+        show_place(text, next)?;
+    }
+    Ok(())
+}
+
 // A chunk: what it brings, and the place of the next one.
-fn show_chunk(alloc: Global, chunk: &Option<Chunk>) -> Result<String, Fail> {
-    let mut text = String::new(alloc);
+fn show_chunk(text: &mut String, chunk: &Option<Chunk>) -> Result<(), Fail> {
     let Some(chunk) = chunk else {
         text.push_str("no chunk")?;
-        return Ok(text);
+        return Ok(());
     };
-    show_part(&mut text, &chunk.part)?;
-    if let Some(next) = &chunk.next {
-        text.push_str(", then ")?;
-        show_place(&mut text, next)?;
-    }
-    Ok(text)
+    show_part(text, &chunk.part)?;
+    show_next(text, &chunk.next)
 }
 
 // The state; a place; the chunk there. A pair of 4,093 bytes under a key of 3 weighs 4,096 bytes.
@@ -161,20 +188,38 @@ none => seen => 1 kept
 0 - 33*4093 => omap:k25 => 16 pairs, then omap:k41
 0 - 33*4093 => omap:k41 => 1 pairs, then seen"#;
 
+// The chunk of a state at a place.
+fn cut(alloc: Global, state: &NameState, at: &Cursor) -> Result<Option<Chunk>, Fail> {
+    given(chunk_of(alloc, state, at), "memory")
+}
+
+// What the chunk of a state at the place of a word is.
+fn told(alloc: Global, state: &NameState, word: &str) -> Result<String, Fail> {
+    let at = place(alloc, word)?;
+    let chunk = cut(alloc, state, &at)?;
+    let mut text = String::new(alloc);
+    show_chunk(&mut text, &chunk)?;
+    Ok(text)
+}
+
+// One row: the chunk at a place.
+fn place_holds(rt: &impl Abort, alloc: Global, line: &str) -> Result<u32, Fail> {
+    let Some((text, at, expected)) = row(line) else {
+        return Ok(0);
+    };
+    let found = told(alloc, &state(alloc, text)?, at)?;
+    agree(rt, line, found.as_str(), expected);
+    Ok(1)
+}
+
 #[test]
 fn places(rt: HostRuntime) -> Result<(), Fail> {
     let alloc = rt.alloc();
     let mut rows = 0u32;
     for line in PLACES.lines() {
-        if let Some((words, at, expected)) = row(line)? {
-            let state = state(alloc, words)?;
-            let found = chunk_of(alloc, &state, &place(alloc, at)?);
-            let chunk = found.ok().ok_or("memory")?;
-            assert_eq!(rt; show_chunk(alloc, &chunk)?.as_str(), expected, "{line}");
-            rows = rows.saturating_add(1);
-        }
+        rows = rows.saturating_add(place_holds(&rt, alloc, line)?);
     }
-    assert_eq!(rt; rows, 38);
+    counted(&rt, rows, 38);
     Ok(())
 }
 
@@ -186,25 +231,56 @@ fn show_state(alloc: Global, state: &NameState) -> Result<String, Fail> {
     Ok(text)
 }
 
-// The places of all chunks of a state in order, and what a gather of them finishes as.
-fn gathered(alloc: Global, state: &NameState) -> Result<(String, String), Fail> {
-    let mut places = String::new(alloc);
-    let mut gather = Gather::new(alloc);
-    for _ in 0..100u32 {
-        let Some(at) = gather.wants() else {
-            break;
-        };
-        show_place(&mut places, at)?;
-        let found = chunk_of(alloc, state, at).ok().ok_or("memory")?;
-        let added = gather.add(found.ok_or("a chunk")?).ok().ok_or("memory")?;
-        places.push_str(match added {
-            Added::Taken => " ",
-            Added::Ignored => " ignored ",
-            Added::Unfit => " unfit ",
-        })?;
+// The chunk that a gather wants, whose place is told; none where it wants none.
+fn wanted(
+    alloc: Global,
+    places: &mut String,
+    gather: &Gather,
+    state: &NameState,
+) -> Result<Option<Chunk>, Fail> {
+    let Some(at) = gather.wants() else {
+        return Ok(None);
+    };
+    show_place(places, at)?;
+    let chunk = cut(alloc, state, at)?;
+    Ok(Some(some(chunk, "a chunk")?))
+}
+
+// What comes of a chunk that is added.
+fn add(gather: &mut Gather, chunk: Chunk) -> Result<Added, Fail> {
+    given(gather.add(chunk), "memory")
+}
+
+// The word for it, behind a place.
+fn word_of(added: Added) -> &'static str {
+    match added {
+        Added::Taken => " ",
+        Added::Ignored => " ignored ",
+        Added::Unfit => " unfit ",
     }
-    let whole = gather.finish().ok().ok_or("a whole state")?;
-    Ok((places, show_state(alloc, &whole)?))
+}
+
+// Adds the chunks that a gather wants, one after another.
+fn run(
+    alloc: Global,
+    places: &mut String,
+    gather: &mut Gather,
+    state: &NameState,
+) -> Result<(), Fail> {
+    for _ in 0..100u32 {
+        match wanted(alloc, places, gather, state)? {
+            Some(chunk) => places.push_str(word_of(add(gather, chunk)?))?,
+            None => break,
+        }
+    }
+    Ok(())
+}
+
+// The state that a gather of all chunks of a state finishes as; their places in order.
+fn gathered(alloc: Global, places: &mut String, state: &NameState) -> Result<NameState, Fail> {
+    let mut gather = Gather::new(alloc);
+    run(alloc, places, &mut gather, state)?;
+    given(gather.finish(), "a whole state")
 }
 
 // The state; the places of its chunks; what they are gathered to.
@@ -216,18 +292,24 @@ const WHOLES: &str = r#"none => head seen => v3 @5 none 1 kept
 0 64*4093 - => head attrs attrs:k25 attrs:k41 attrs:k57 seen => v3 @5 |#64| 1 kept
 65537 16*4093 17*4093 => head body0 body65536 attrs omap omap:k25 seen => v3 @5 #65537|#16|#17 1 kept"#;
 
+// One row: the places, and what is gathered.
+fn whole_holds(rt: &impl Abort, alloc: Global, line: &str) -> Result<u32, Fail> {
+    let Some((text, places, expected)) = row(line) else {
+        return Ok(0);
+    };
+    let mut found = String::new(alloc);
+    let whole = gathered(alloc, &mut found, &state(alloc, text)?)?;
+    agree(rt, line, found.as_str().trim_end(), places);
+    agree(rt, line, show_state(alloc, &whole)?.as_str(), expected);
+    Ok(1)
+}
+
 #[test]
 fn wholes(rt: HostRuntime) -> Result<(), Fail> {
-    let alloc = rt.alloc();
     let mut rows = 0u32;
     for line in WHOLES.lines() {
-        if let Some((words, places, expected)) = row(line)? {
-            let (found, whole) = gathered(alloc, &state(alloc, words)?)?;
-            assert_eq!(rt; found.as_str().trim_end(), places, "{line}");
-            assert_eq!(rt; whole.as_str(), expected, "{line}");
-            rows = rows.saturating_add(1);
-        }
+        rows = rows.saturating_add(whole_holds(&rt, rt.alloc(), line)?);
     }
-    assert_eq!(rt; rows, 7);
+    counted(&rt, rows, 7);
     Ok(())
 }

@@ -1,71 +1,127 @@
 //! Each kind on an absent object and on one with the body 01234567, the attribute k of v1, and the
 //! entries a to c of 1 to 3.
-use crate::tools::{row, show_obj, show_out, show_why, state_with, vector};
-use obj_model::{NameState, Obj};
+ghost use Rattle.std.specs.Prelude.{◌≡◌, true, false, IfOk};
+ghost use Rattle.std.specs.List.{list_any};
+ghost use Rattle.obj_model.specs.SubOps.{is_write};
+
+use crate::tools::{agree, counted, given, row, show_obj, show_out, show_why, state_with, vector};
+use obj_model::{NameState, Out, Vector, Why};
 use obj_ops::{Looked, Ran, look, run_vector};
 use std::alloc::Global;
 use std::fmt::Write;
+use std::process::Abort;
 use std::test::Fail;
 
 const PRESENT: &str =
     "writefull 01234567 ; setxattr k v1 ; omapset a 1 ; omapset b 2 ; omapset c 3";
 
-// Where the object was accepted, it; where it was refused, the place and why.
-pub fn ran(alloc: Global, state: &NameState, text: &str) -> Result<String, Fail> {
+// A vector that writes.
+fn writing(alloc: Global, text: &str) -> Result<Vector, Fail>
+    ensures { IfOk result (λ v. list_any is_write v ≡ true) }
+{
     let vector = vector(alloc, text)?;
     if !vector.writes() {
         return Err("a write vector".into());
     }
-    match run_vector(alloc, state, &vector).ok().ok_or("memory")? {
-        Ran::Accepted(obj) => show_obj(alloc, &obj),
-        Ran::Refused { at, why } => {
-            let mut shown = String::new(alloc);
-            write!(&mut shown, "{at} ")?;
-            show_why(&mut shown, why)?;
-            Ok(shown)
-        }
-    }
+    Ok(vector)
 }
 
-// What a read vector tells, with semicolons between; or the place of its refusal and why.
-fn told(alloc: Global, state: &NameState, text: &str) -> Result<String, Fail> {
+// A vector that reads.
+fn reading(alloc: Global, text: &str) -> Result<Vector, Fail>
+    ensures { IfOk result (λ v. list_any is_write v ≡ false) }
+{
     let vector = vector(alloc, text)?;
     if vector.writes() {
         return Err("a read vector".into());
     }
+    Ok(vector)
+}
+
+// What a write vector does to a state.
+fn run(alloc: Global, state: &NameState, text: &str) -> Result<Ran, Fail> {
+    let vector = writing(alloc, text)?;
+    given(run_vector(alloc, state, &vector), "memory")
+}
+
+// The place of a refusal, and why.
+fn show_refusal(alloc: Global, at: u8, why: Why) -> Result<String, Fail> {
+    let mut shown = format!(in alloc; "{at} ")?;
+    show_why(&mut shown, why)?;
+    Ok(shown)
+}
+
+// Where the object was accepted, it; where it was refused, the place and why.
+pub fn ran(alloc: Global, state: &NameState, text: &str) -> Result<String, Fail> {
+    match run(alloc, state, text)? {
+        Ran::Accepted(obj) => show_obj(alloc, &obj),
+        Ran::Refused { at, why } => show_refusal(alloc, at, why),
+    }
+}
+
+// What a read vector tells of a state.
+pub fn looked(alloc: Global, state: &NameState, text: &str) -> Result<Looked, Fail> {
+    let vector = reading(alloc, text)?;
+    given(look(alloc, state, &vector), "memory")
+}
+
+// What was told, with semicolons between.
+fn show_outs(alloc: Global, outs: &[Out]) -> Result<String, Fail> {
     let mut shown = String::new(alloc);
-    match look(alloc, state, &vector).ok().ok_or("memory")? {
-        Looked::Refused { at, why, .. } => {
-            write!(&mut shown, "{at} ")?;
-            show_why(&mut shown, why)?;
+    let mut first = true;
+    for out in outs {
+        if !first {
+            shown.push(';')?;
         }
-        Looked::Values { outs, .. } => {
-            let mut first = true;
-            for out in outs.as_slice() {
-                if !first {
-                    shown.push(';')?;
-                }
-                first = false;
-                show_out(&mut shown, out)?;
-            }
-        }
+        first = false;
+        show_out(&mut shown, out)?;
     }
     Ok(shown)
 }
 
-// The object that a write vector makes of none.
-pub fn object(alloc: Global, text: &str) -> Result<Option<Obj>, Fail> {
-    let vector = vector(alloc, text)?;
-    if !vector.writes() {
-        return Err("a write vector".into());
+// What a read vector tells; or the place of its refusal and why.
+fn told(alloc: Global, state: &NameState, text: &str) -> Result<String, Fail> {
+    match looked(alloc, state, text)? {
+        Looked::Refused { at, why, .. } => show_refusal(alloc, at, why),
+        Looked::Values { outs, .. } => show_outs(alloc, outs.as_slice()),
     }
-    match run_vector(alloc, &NameState::unknown(alloc), &vector)
-        .ok()
-        .ok_or("memory")?
-    {
-        Ran::Accepted(obj) => Ok(obj),
+}
+
+// The state whose object a write vector makes of none.
+fn present(alloc: Global, text: &str) -> Result<NameState, Fail> {
+    match run(alloc, &NameState::unknown(alloc), text)? {
+        Ran::Accepted(obj) => Ok(state_with(alloc, obj)),
         Ran::Refused { .. } => Err("accepted".into()),
     }
+}
+
+// Runs the vector of a row on both states, of which its texts tell in this order.
+pub fn ran_as(
+    rt: &impl Abort,
+    alloc: Global,
+    states: (&NameState, &NameState),
+    line: &str,
+) -> Result<u32, Fail> {
+    let Some((text, first, second)) = row(line) else {
+        return Ok(0);
+    };
+    agree(rt, text, ran(alloc, states.0, text)?.as_str(), first);
+    agree(rt, text, ran(alloc, states.1, text)?.as_str(), second);
+    Ok(1)
+}
+
+// The same of a vector that reads.
+fn told_as(
+    rt: &impl Abort,
+    alloc: Global,
+    states: (&NameState, &NameState),
+    line: &str,
+) -> Result<u32, Fail> {
+    let Some((text, first, second)) = row(line) else {
+        return Ok(0);
+    };
+    agree(rt, text, told(alloc, states.0, text)?.as_str(), first);
+    agree(rt, text, told(alloc, states.1, text)?.as_str(), second);
+    Ok(1)
 }
 
 // The vector; what it leaves of an absent object, and of the present one, or the refusal.
@@ -142,16 +198,12 @@ assert_exists ; append a ; assert_exists ; append b ; cmpxattr k v1 ; append c ;
 fn writing_kinds(rt: HostRuntime) -> Result<(), Fail> {
     let alloc = rt.alloc();
     let absent = state_with(alloc, None);
-    let present = state_with(alloc, object(alloc, PRESENT)?);
+    let present = present(alloc, PRESENT)?;
     let mut rows = 0u32;
     for line in WRITING.lines() {
-        if let Some((text, on_absent, on_present)) = row(line)? {
-            assert_eq!(rt; ran(alloc, &absent, text)?.as_str(), on_absent, "{text}");
-            assert_eq!(rt; ran(alloc, &present, text)?.as_str(), on_present, "{text}");
-            rows = rows.saturating_add(1);
-        }
+        rows = rows.saturating_add(ran_as(&rt, alloc, (&absent, &present), line)?);
     }
-    assert_eq!(rt; rows, 64);
+    counted(&rt, rows, 64);
     Ok(())
 }
 
@@ -201,15 +253,11 @@ stat ; cmpxattr k v1 ; omaplist a 1 ; assert_ver 4 => 3 overflow => 0 noent"#;
 fn reading_kinds(rt: HostRuntime) -> Result<(), Fail> {
     let alloc = rt.alloc();
     let absent = state_with(alloc, None);
-    let present = state_with(alloc, object(alloc, PRESENT)?);
+    let present = present(alloc, PRESENT)?;
     let mut rows = 0u32;
     for line in READING.lines() {
-        if let Some((text, on_present, on_absent)) = row(line)? {
-            assert_eq!(rt; told(alloc, &present, text)?.as_str(), on_present, "{text}");
-            assert_eq!(rt; told(alloc, &absent, text)?.as_str(), on_absent, "{text}");
-            rows = rows.saturating_add(1);
-        }
+        rows = rows.saturating_add(told_as(&rt, alloc, (&present, &absent), line)?);
     }
-    assert_eq!(rt; rows, 38);
+    counted(&rt, rows, 38);
     Ok(())
 }

@@ -1,31 +1,37 @@
 //! Each limit at its last allowed and its first refused value.
-use crate::kinds::ran;
-use crate::tools::{bytes, name, row, state_with};
-use obj_model::{Bytes, NameMap, NameState, Obj, PairMap};
+use crate::kinds::ran_as;
+use crate::tools::{bytes, counted, empty_object, filled, given, name, state_with};
+use obj_model::{NameState, Obj, PairMap};
 use std::alloc::Global;
 use std::test::Fail;
 
-// A table with so many entries, of the keys k0, k1 and so on.
-fn filled(alloc: Global, count: u32) -> Result<PairMap, Fail> {
-    let mut table = NameMap::new(alloc);
-    for at in 0..count {
-        let key = format!(in alloc; "k{at}")?;
-        let value = bytes(alloc, "v")?;
-        table
-            .insert(name(alloc, key.as_str())?, value)
-            .ok()
-            .ok_or("memory")?;
-    }
-    Ok(table)
+// Puts the key of this number.
+fn put_entry(alloc: Global, table: &mut PairMap, at: u32) -> Result<(), Fail> {
+    let key = name(alloc, format!(in alloc; "k{at}")?.as_str())?;
+    let value = bytes(alloc, "v")?;
+    given(table.insert(key, value), "memory")?;
+    Ok(())
 }
 
-// A state whose object has a body of so many bytes, so many attributes and so many entries.
-fn state_of(alloc: Global, size: u32, attrs: u32, omap: u32) -> Result<NameState, Fail> {
-    let obj = Obj {
-        body: Bytes::from_vec(vec![in alloc; b'x'; size as usize]?),
-        attrs: filled(alloc, attrs)?,
-        omap: filled(alloc, omap)?,
-    };
+// Puts so many entries, of the keys k0, k1 and so on.
+fn fill(alloc: Global, table: &mut PairMap, count: u32) -> Result<(), Fail> {
+    for at in 0..count {
+        put_entry(alloc, table, at)?;
+    }
+    Ok(())
+}
+
+// Gives an object a body of so many bytes, so many attributes and so many entries.
+fn fill_object(alloc: Global, obj: &mut Obj, size: u64, attrs: u32, omap: u32) -> Result<(), Fail> {
+    obj.body = filled(alloc, b'x', size)?;
+    fill(alloc, &mut obj.attrs, attrs)?;
+    fill(alloc, &mut obj.omap, omap)
+}
+
+// A state whose object has these.
+fn state_of(alloc: Global, size: u64, attrs: u32, omap: u32) -> Result<NameState, Fail> {
+    let mut obj = empty_object(alloc);
+    fill_object(alloc, &mut obj, size, attrs, omap)?;
     Ok(state_with(alloc, Some(obj)))
 }
 
@@ -56,13 +62,9 @@ fn bodies(rt: HostRuntime) -> Result<(), Fail> {
     let absent = state_with(alloc, None);
     let mut rows = 0u32;
     for line in BODIES.lines() {
-        if let Some((text, on_full, on_absent)) = row(line)? {
-            assert_eq!(rt; ran(alloc, &full, text)?.as_str(), on_full, "{text}");
-            assert_eq!(rt; ran(alloc, &absent, text)?.as_str(), on_absent, "{text}");
-            rows = rows.saturating_add(1);
-        }
+        rows = rows.saturating_add(ran_as(&rt, alloc, (&full, &absent), line)?);
     }
-    assert_eq!(rt; rows, 18);
+    counted(&rt, rows, 18);
     Ok(())
 }
 
@@ -90,12 +92,8 @@ fn tables(rt: HostRuntime) -> Result<(), Fail> {
     let full = state_of(alloc, 0, 64, 1_024)?;
     let mut rows = 0u32;
     for line in TABLES.lines() {
-        if let Some((text, with_room, when_full)) = row(line)? {
-            assert_eq!(rt; ran(alloc, &room, text)?.as_str(), with_room, "{text}");
-            assert_eq!(rt; ran(alloc, &full, text)?.as_str(), when_full, "{text}");
-            rows = rows.saturating_add(1);
-        }
+        rows = rows.saturating_add(ran_as(&rt, alloc, (&room, &full), line)?);
     }
-    assert_eq!(rt; rows, 14);
+    counted(&rt, rows, 14);
     Ok(())
 }

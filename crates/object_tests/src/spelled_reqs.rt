@@ -1,8 +1,10 @@
 //! Requests whose bytes, and what they spell, were worked out by hand: each kind of sub-operation.
 use crate::spelled::{Kind, hex, is_whole, rows_hold};
-use crate::tools::{name, vector};
+use crate::tools::{given, holds, name, sides, vector};
 use obj_model::Req;
 use req_codec::write_req;
+use std::alloc::Global;
+use std::process::Abort;
 use std::test::Fail;
 
 // The client 1, the tid 2^62 and the name a.
@@ -34,22 +36,37 @@ omaplist k 3 => 01 15 01 01 6b 0000000000000003
 assert_exists ; create ; remove => 03 0d 01 07
 assert_exists ; stat => 02 0d 11";
 
+// The bytes of a request of a vector with these bytes.
+fn asked(alloc: Global, spelled: &str) -> Result<Vec<u8>, Fail> {
+    hex(alloc, format!(in alloc; "{}{spelled}", ASKED)?.as_str())
+}
+
+// The bytes that a request of a vector is written as.
+fn written(alloc: Global, text: &str) -> Result<Vec<u8>, Fail> {
+    let name = name(alloc, "a")?;
+    let vector = vector(alloc, text)?;
+    let req = Req {
+        client: 1,
+        tid: 4_611_686_018_427_387_904,
+        name,
+        vector,
+    };
+    given(write_req(alloc, &req), "memory")
+}
+
+// One row.
+fn vector_holds(rt: &impl Abort, alloc: Global, row: &str) -> Result<(), Fail> {
+    let (text, spelled) = sides(row);
+    let bytes = asked(alloc, spelled)?;
+    let written = written(alloc, text)?;
+    holds(rt, row, written.as_slice() == bytes.as_slice());
+    is_whole(rt, alloc, Kind::Req, bytes.as_slice())
+}
+
 #[test]
 fn worked_requests(rt: HostRuntime) -> Result<(), Fail> {
-    let alloc = rt.alloc();
     for row in VECTORS.lines() {
-        let (text, spelled) = row.split_once(" => ").ok_or("a row")?;
-        let mut bytes = hex(alloc, ASKED)?;
-        bytes.extend_from_slice(hex(alloc, spelled)?.as_slice())?;
-        let req = Req {
-            client: 1,
-            tid: 4_611_686_018_427_387_904,
-            name: name(alloc, "a")?,
-            vector: vector(alloc, text)?,
-        };
-        let written = write_req(alloc, &req).ok().ok_or("memory")?;
-        assert_eq!(rt; written.as_slice(), bytes.as_slice(), "{text}");
-        is_whole(&rt, alloc, Kind::Req, bytes.as_slice())?;
+        vector_holds(&rt, rt.alloc(), row)?;
     }
     Ok(())
 }

@@ -1,9 +1,12 @@
 //! States and records of the cache whose bytes, and what they spell, were worked out by hand.
-use crate::spelled::{Kind, changes_hold, hex, is_whole, rows_hold, spells};
-use crate::tools::number;
-use obj_model::{Kept, Reply, Why};
+use crate::requests::show_state;
+use crate::spelled::{
+    Kind, changed_spells, changes_hold, hex, is_whole, put_all, rows_hold, spells, text_is_whole,
+};
+use crate::tools::{agree, given, holds, number, some, words};
 use rec_codec::{read_state, read_tier};
 use std::alloc::Global;
+use std::process::Abort;
 use std::test::Fail;
 
 // What a first `writefull` of "abc" by client 1 with tid 1 leaves.
@@ -23,53 +26,34 @@ const TABLES: &str = "0000000000000001 0000000000000001 01 00000000
 #[test]
 fn worked_states(rt: HostRuntime) -> Result<(), Fail> {
     let alloc = rt.alloc();
-    for text in [FIRST, REFUSED, TABLES] {
-        is_whole(&rt, alloc, Kind::State, hex(alloc, text)?.as_slice())?;
-    }
-    Ok(())
+    text_is_whole(&rt, alloc, Kind::State, FIRST)?;
+    text_is_whole(&rt, alloc, Kind::State, REFUSED)?;
+    text_is_whole(&rt, alloc, Kind::State, TABLES)
+}
+
+// What the state that digits spell shows.
+fn shown(alloc: Global, text: &str) -> Result<String, Fail> {
+    let bytes = hex(alloc, text)?;
+    let state = some(
+        given(read_state(alloc, bytes.as_slice()), "memory")?,
+        "a state",
+    )?;
+    show_state(alloc, &state)
 }
 
 #[test]
 fn first_state(rt: HostRuntime) -> Result<(), Fail> {
-    let bytes = hex(rt.alloc(), FIRST)?;
-    let state = read_state(rt.alloc(), bytes.as_slice())
-        .ok()
-        .ok_or("memory")?
-        .ok_or("a state")?;
-    assert!(rt; state.ver == 1 && state.seq == 1);
-    let kept = Kept {
-        client: 1,
-        tid: 1,
-        reply: Reply::Done { ver: 1 },
-    };
-    assert_eq!(rt; state.seen.as_slice().first(), Some(&kept));
-    let obj = state.obj.ok_or("an object")?;
-    assert_eq!(rt; obj.body.as_slice(), b"abc".as_slice());
-    assert!(rt; obj.attrs.len() == 0 && obj.omap.len() == 0);
+    let found = shown(rt.alloc(), FIRST)?;
+    agree(&rt, FIRST, found.as_str(), "abc|| v1 @1 1:1 done v1");
     Ok(())
 }
 
 #[test]
 fn refused_requests(rt: HostRuntime) -> Result<(), Fail> {
-    let bytes = hex(rt.alloc(), REFUSED)?;
-    let state = read_state(rt.alloc(), bytes.as_slice())
-        .ok()
-        .ok_or("memory")?
-        .ok_or("a state")?;
-    let why = Why::TooBig {
-        limit: 1_048_576,
-        asked: 1_048_577,
-    };
-    let kept = Kept {
-        client: 256,
-        tid: 4_611_686_018_427_387_904,
-        reply: Reply::Refused {
-            at: 15,
-            why,
-            ver: 0,
-        },
-    };
-    assert_eq!(rt; state.seen.as_slice().last(), Some(&kept));
+    let found = shown(rt.alloc(), REFUSED)?;
+    let want = "none v0 @2 1:5 refused 0 noent v0 256:4611686018427387904 \
+        refused 15 toobig 1048576 1048577 v0";
+    agree(&rt, REFUSED, found.as_str(), want);
     Ok(())
 }
 
@@ -90,31 +74,47 @@ nyyyyyyy yyyyyyyy nyyyyyyy
 y y y";
 
 // One row of verdicts: with this byte at each place from the first one on.
-fn verdicts_hold(alloc: Global, from: usize, byte: u8, verdicts: &str) -> Result<bool, Fail> {
+fn verdicts_hold(
+    alloc: Global,
+    first: &[u8],
+    from: usize,
+    byte: u8,
+    verdicts: &str,
+) -> Result<bool, Fail> {
     for (at, verdict) in verdicts.bytes().enumerate() {
-        let mut bytes = hex(alloc, FIRST)?;
         let place = from.saturating_add(at);
-        if place < bytes.len() {
-            bytes[place] = byte;
-        }
-        if spells(alloc, Kind::State, bytes.as_slice())? != (verdict == b'y') {
+        if changed_spells(alloc, Kind::State, first, place, byte)? != (verdict == b'y') {
             return Ok(false);
         }
     }
     Ok(true)
 }
 
+// A row: with 0, 1 and 255 at these places.
+fn bytes_hold(
+    rt: &impl Abort,
+    alloc: Global,
+    first: &[u8],
+    from: usize,
+    row: &str,
+) -> Result<(), Fail> {
+    let (zero, rest) = words(row);
+    let (one, last) = words(rest);
+    holds(rt, row, verdicts_hold(alloc, first, from, 0, zero)?);
+    holds(rt, row, verdicts_hold(alloc, first, from, 1, one)?);
+    holds(rt, row, verdicts_hold(alloc, first, from, 255, last)?);
+    Ok(())
+}
+
 #[test]
 fn each_byte_of_the_first(rt: HostRuntime) -> Result<(), Fail> {
+    let first = hex(rt.alloc(), FIRST)?;
     let mut from = 0usize;
     for row in FIRST_VERDICTS.lines() {
-        for (verdicts, byte) in row.split_whitespace().zip([0u8, 1, 255]) {
-            let hold = verdicts_hold(rt.alloc(), from, byte, verdicts)?;
-            assert!(rt; hold, "{byte} from {from}");
-        }
+        bytes_hold(&rt, rt.alloc(), first.as_slice(), from, row)?;
         from = from.saturating_add(8);
     }
-    assert_eq!(rt; from, 56);
+    holds(&rt, "56 places", from == 56);
     Ok(())
 }
 
@@ -155,10 +155,8 @@ const TABLES_CHANGES: &str = "20 1 n a body of one byte, and 512 attributes
 #[test]
 fn changed_bytes(rt: HostRuntime) -> Result<(), Fail> {
     let alloc = rt.alloc();
-    let bytes = hex(alloc, REFUSED)?;
-    changes_hold(&rt, alloc, Kind::State, bytes.as_slice(), REFUSED_CHANGES)?;
-    let bytes = hex(alloc, TABLES)?;
-    changes_hold(&rt, alloc, Kind::State, bytes.as_slice(), TABLES_CHANGES)
+    changes_hold(&rt, alloc, Kind::State, REFUSED, REFUSED_CHANGES)?;
+    changes_hold(&rt, alloc, Kind::State, TABLES, TABLES_CHANGES)
 }
 
 // Records: the unknown state, clean at 0 and dirty at 258; then what is no record.
@@ -172,34 +170,57 @@ n 0000000000000001 0000000000000000 00 0000 01 0000000000000102, ver above seq
 n 0000000000000000 0000000000000000 00 0000, a state alone
 n 01 0000000000000102, no state";
 
+// The first state, dirty at 515.
+fn first_record(alloc: Global) -> Result<Vec<u8>, Fail> {
+    let mut bytes = hex(alloc, FIRST)?;
+    bytes.extend_from_slice(&[1, 0, 0, 0, 0, 0, 0, 2, 3])?;
+    Ok(bytes)
+}
+
+// The seq of a record, whether it is dirty, and its moment.
+fn record_of(alloc: Global, bytes: &[u8]) -> Result<(u64, bool, u64), Fail> {
+    let found = given(read_tier(alloc, bytes), "memory")?;
+    let (state, dirty, mtime) = some(found, "a record")?;
+    Ok((state.seq, dirty, mtime))
+}
+
 #[test]
 fn records_of_the_cache(rt: HostRuntime) -> Result<(), Fail> {
     let alloc = rt.alloc();
     rows_hold(&rt, alloc, Kind::Tier, TIERS)?;
-    let mut bytes = hex(alloc, FIRST)?;
-    bytes.extend_from_slice(&[1, 0, 0, 0, 0, 0, 0, 2, 3])?;
+    let bytes = first_record(alloc)?;
     is_whole(&rt, alloc, Kind::Tier, bytes.as_slice())?;
-    let (state, dirty, mtime) = read_tier(alloc, bytes.as_slice())
-        .ok()
-        .ok_or("memory")?
-        .ok_or("a record")?;
-    assert!(rt; state.seq == 1 && dirty && mtime == 515);
+    let (seq, dirty, mtime) = record_of(alloc, bytes.as_slice())?;
+    holds(&rt, "the record", seq == 1 && dirty && mtime == 515);
     Ok(())
 }
 
-// So many pairs with values of so many bytes, whose keys are as long as a name may be.
-fn put_pairs(alloc: Global, bytes: &mut Vec<u8>, count: u16, len: u16) -> Result<(), Fail> {
-    let front = vec![in alloc; b'a'; 253]?;
-    let value = vec![in alloc; 7u8; len as usize]?;
+// The pair at this place, with a value of so many bytes, whose key is as long as a name may be.
+fn put_pair(bytes: &mut Vec<u8>, place: u16, len: u16) -> Result<(), Fail> {
+    let low = (place % 64) as u8;
+    let high = (place / 64 % 32) as u8;
+    bytes.push(255)?;
+    put_all(bytes, b'a', 253)?;
+    bytes.extend_from_slice(&[b'A' + high, b'<' + low])?;
+    bytes.extend_from_slice(&u32::from(len).to_be_bytes())?;
+    put_all(bytes, 7, u64::from(len))
+}
+
+// So many such pairs.
+fn put_pairs(bytes: &mut Vec<u8>, count: u16, len: u16) -> Result<(), Fail> {
     bytes.extend_from_slice(&count.to_be_bytes())?;
     for place in 0..count {
-        let low = (place % 64) as u8;
-        let high = (place / 64 % 32) as u8;
-        bytes.push(255)?;
-        bytes.extend_from_slice(&front)?;
-        bytes.extend_from_slice(&[b'A' + high, b'<' + low])?;
-        bytes.extend_from_slice(&u32::from(len).to_be_bytes())?;
-        bytes.extend_from_slice(&value)?;
+        put_pair(bytes, place, len)?;
+    }
+    Ok(())
+}
+
+// A request of each client from 1, refused as these bytes say.
+fn put_refusals(bytes: &mut Vec<u8>, count: u16, refused: &[u8]) -> Result<(), Fail> {
+    bytes.extend_from_slice(&count.to_be_bytes())?;
+    for place in 0..count {
+        bytes.extend_from_slice(&place.saturating_add(1).to_be_bytes())?;
+        bytes.extend_from_slice(refused)?;
     }
     Ok(())
 }
@@ -207,12 +228,7 @@ fn put_pairs(alloc: Global, bytes: &mut Vec<u8>, count: u16, len: u16) -> Result
 // A request of each client from 1, with the tid 2^62, refused for its size.
 fn put_requests(alloc: Global, bytes: &mut Vec<u8>, count: u16) -> Result<(), Fail> {
     let refused = hex(alloc, REFUSED)?;
-    bytes.extend_from_slice(&count.to_be_bytes())?;
-    for place in 0..count {
-        bytes.extend_from_slice(&place.saturating_add(1).to_be_bytes())?;
-        bytes.extend_from_slice(&refused[refused.len().min(42)..])?;
-    }
-    Ok(())
+    put_refusals(bytes, count, &refused[refused.len().min(42)..])
 }
 
 // Bytes of the body, attributes, entries, bytes of each value, clients, and whether that is a
@@ -226,41 +242,51 @@ const SIZES: &str = "1048576 64 1024 4096 256 y
 1 1 1 1 257 n";
 
 // A number of two bytes in decimal digits.
-fn small(word: Option<&str>) -> Result<u16, Fail> {
-    Ok(
-        word.ok_or("a number")?
-            .parse::<u16>()
-            .ok()
-            .ok_or("a number")?,
-    )
+fn small(word: &str) -> Result<u16, Fail> {
+    given(word.parse::<u16>(), "a number")
+}
+
+// Puts a body of so many bytes.
+fn put_body(bytes: &mut Vec<u8>, size: u64) -> Result<(), Fail> {
+    let size = size.min(2_000_000);
+    bytes.extend_from_slice(&(size as u32).to_be_bytes())?;
+    put_all(bytes, 9, size)
+}
+
+// Puts what these sizes say.
+fn put_sized(alloc: Global, bytes: &mut Vec<u8>, row: &str) -> Result<(), Fail> {
+    let (body, rest) = words(row);
+    let (attrs, rest) = words(rest);
+    let (omap, rest) = words(rest);
+    let (value, rest) = words(rest);
+    let (clients, _) = words(rest);
+    let value = small(value)?;
+    put_body(bytes, number(body)?)?;
+    put_pairs(bytes, small(attrs)?, value)?;
+    put_pairs(bytes, small(omap)?, value)?;
+    put_requests(alloc, bytes, small(clients)?)
 }
 
 // The spelling of a state of such sizes, with ver and seq of 2^62.
 fn sized(alloc: Global, row: &str) -> Result<Vec<u8>, Fail> {
-    let mut sizes = row.split_whitespace();
-    let body = number(sizes.next().ok_or("a size")?)?.min(2_000_000) as u32;
-    let attrs = small(sizes.next())?;
-    let omap = small(sizes.next())?;
-    let value = small(sizes.next())?;
-    let clients = small(sizes.next())?;
     let mut bytes = hex(alloc, "4000000000000000 4000000000000000 01")?;
-    bytes.extend_from_slice(&body.to_be_bytes())?;
-    bytes.extend_from_slice(&vec![in alloc; 9u8; body as usize]?)?;
-    put_pairs(alloc, &mut bytes, attrs, value)?;
-    put_pairs(alloc, &mut bytes, omap, value)?;
-    put_requests(alloc, &mut bytes, clients)?;
+    put_sized(alloc, &mut bytes, row)?;
     Ok(bytes)
+}
+
+// One row.
+fn sizes_hold(rt: &impl Abort, alloc: Global, row: &str) -> Result<(), Fail> {
+    let bytes = sized(alloc, row)?;
+    let verdict = spells(alloc, Kind::State, bytes.as_slice())?;
+    holds(rt, row, verdict == row.ends_with('y'));
+    holds(rt, row, !verdict || bytes.len() == 5_797_403);
+    Ok(())
 }
 
 #[test]
 fn states_at_and_past_a_limit(rt: HostRuntime) -> Result<(), Fail> {
     for row in SIZES.lines() {
-        let bytes = sized(rt.alloc(), row)?;
-        let verdict = spells(rt.alloc(), Kind::State, bytes.as_slice())?;
-        assert!(rt; verdict == row.ends_with('y'), "{row}");
-        if verdict {
-            assert_eq!(rt; bytes.len(), 5_797_403);
-        }
+        sizes_hold(&rt, rt.alloc(), row)?;
     }
     Ok(())
 }

@@ -1,30 +1,59 @@
 //! Transactions whose bytes, and what they spell, were worked out by hand.
-use crate::spelled::{Kind, changes_hold, hex, is_whole, rows_hold, spells};
+use crate::spelled::{Kind, changes_hold, hex, put_all, rows_hold, spells, text_is_whole};
+use crate::tools::{agree, given, holds, show_bytes, some};
 use obj_model::Change;
 use rec_codec::read_txn;
+use std::alloc::Global;
+use std::process::Abort;
 use std::test::Fail;
 
 // Puts "v" at N and a, and removes E.
 const TXN: &str = "02 01 0002 4e61 00000001 76 02 0001 45";
 
-#[test]
-fn worked_transaction(rt: HostRuntime) -> Result<(), Fail> {
-    let bytes = hex(rt.alloc(), TXN)?;
-    let changes = read_txn(rt.alloc(), bytes.as_slice())
-        .ok()
-        .ok_or("memory")?
-        .ok_or("a transaction")?;
-    assert_eq!(rt; changes.len(), 2);
-    for change in &changes {
-        match change {
-            Change::Put { key, value } => {
-                assert!(rt; key.as_slice() == b"Na".as_slice());
-                assert!(rt; value.as_slice() == b"v".as_slice());
-            }
-            Change::Remove { key } => assert!(rt; key.as_slice() == b"E".as_slice()),
+// The transaction that digits spell.
+fn txn(alloc: Global, text: &str) -> Result<Vec<Change>, Fail> {
+    let bytes = hex(alloc, text)?;
+    some(
+        given(read_txn(alloc, bytes.as_slice()), "memory")?,
+        "a transaction",
+    )
+}
+
+// A change in words.
+fn show_change(text: &mut String, change: &Change) -> Result<(), Fail> {
+    match change {
+        Change::Put { key, value } => {
+            show_bytes(text, key.as_slice())?;
+            text.push('=')?;
+            show_bytes(text, value.as_slice())?;
+        }
+        Change::Remove { key } => {
+            text.push('-')?;
+            show_bytes(text, key.as_slice())?;
         }
     }
-    is_whole(&rt, rt.alloc(), Kind::Txn, bytes.as_slice())
+    Ok(text.push(' ')?)
+}
+
+// All changes.
+fn show_changes(alloc: Global, changes: &[Change]) -> Result<String, Fail> {
+    let mut text = String::new(alloc);
+    for change in changes {
+        show_change(&mut text, change)?;
+    }
+    Ok(text)
+}
+
+#[test]
+fn worked_transaction(rt: HostRuntime) -> Result<(), Fail> {
+    let changes = txn(rt.alloc(), TXN)?;
+    agree(
+        &rt,
+        TXN,
+        show_changes(rt.alloc(), changes.as_slice())?.as_str(),
+        "Na=v -E ",
+    );
+    text_is_whole(&rt, rt.alloc(), Kind::Txn, TXN)
 }
 
 const TXN_CHANGES: &str = "0 0 n no change
@@ -55,19 +84,23 @@ n 02 01 0001 45 00000000 02 0001 45, a key twice";
 #[test]
 fn changed_transactions(rt: HostRuntime) -> Result<(), Fail> {
     let alloc = rt.alloc();
-    let bytes = hex(alloc, TXN)?;
-    changes_hold(&rt, alloc, Kind::Txn, bytes.as_slice(), TXN_CHANGES)?;
+    changes_hold(&rt, alloc, Kind::Txn, TXN, TXN_CHANGES)?;
     rows_hold(&rt, alloc, Kind::Txn, TXNS)
+}
+
+// The removal of a key of so many bytes is a transaction, or not.
+fn long_key(rt: &impl Abort, alloc: Global, len: u16, want: bool) -> Result<(), Fail> {
+    let mut bytes = Vec::from_slice(alloc, &[1, 2])?;
+    bytes.extend_from_slice(&len.to_be_bytes())?;
+    put_all(&mut bytes, 0x61, u64::from(len))?;
+    let found = spells(alloc, Kind::Txn, bytes.as_slice())?;
+    holds(rt, "a long key", found == want);
+    Ok(())
 }
 
 #[test]
 fn long_keys(rt: HostRuntime) -> Result<(), Fail> {
-    for (len, want) in [(1u16, true), (256, true), (257, false)] {
-        let mut bytes = Vec::from_slice(rt.alloc(), &[1, 2])?;
-        bytes.extend_from_slice(&len.to_be_bytes())?;
-        bytes.extend_from_slice(&vec![in rt.alloc(); 0x61u8; len as usize]?)?;
-        let verdict = spells(rt.alloc(), Kind::Txn, bytes.as_slice())?;
-        assert!(rt; verdict == want, "{len}");
-    }
-    Ok(())
+    long_key(&rt, rt.alloc(), 1, true)?;
+    long_key(&rt, rt.alloc(), 256, true)?;
+    long_key(&rt, rt.alloc(), 257, false)
 }

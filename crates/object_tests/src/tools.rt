@@ -1,7 +1,8 @@
 //! What the tables share: vectors and objects as short texts.
-use obj_model::{Bytes, Name, NameState, Obj, Out, Pair, PairMap, SubOp, Vector, Why};
+use obj_model::{Bytes, Name, NameMap, NameState, Obj, Out, Pair, PairMap, SubOp, Vector, Why};
 use std::alloc::Global;
 use std::fmt::Write;
+use std::process::Abort;
 use std::test::Fail;
 
 // The word at a place of a sub-operation, or no bytes.
@@ -9,25 +10,71 @@ fn word<'a>(words: &'a [&'a str], at: usize) -> &'a str {
     words.get(at).copied().unwrap_or("")
 }
 
-// The three parts of a row, with arrows between; none of a comment.
-pub fn row(line: &str) -> Result<Option<(&str, &str, &str)>, Fail> {
-    if line.starts_with('#') {
-        return Ok(None);
+// What was found for a row is what was wanted.
+pub fn agree(rt: &impl Abort, row: &str, found: &str, want: &str) {
+    assert_eq!(rt; found, want, "{row}");
+}
+
+// Something that holds of a row.
+pub fn holds(rt: &impl Abort, row: &str, verdict: bool) {
+    assert!(rt; verdict, "{row}");
+}
+
+// So many rows were gone through.
+pub fn counted(rt: &impl Abort, rows: u32, want: u32) {
+    assert_eq!(rt; rows, want);
+}
+
+// A value, or why there is none.
+pub fn given<T, E: Drop>(found: Result<T, E>, what: &'static str) -> Result<T, Fail> {
+    match found {
+        Ok(value) => Ok(value),
+        Err(_) => Err(what.into()),
     }
-    let (first, rest) = line.split_once(" => ").ok_or("a row")?;
-    let (second, third) = rest.split_once(" => ").ok_or("a row")?;
-    Ok(Some((first, second, third)))
+}
+
+// The same of an option.
+pub fn some<T>(option: Option<T>, what: &'static str) -> Result<T, Fail> {
+    match option {
+        Some(value) => Ok(value),
+        None => Err(what.into()),
+    }
+}
+
+// What stands in front of the first space, and behind it.
+pub fn words(text: &str) -> (&str, &str) {
+    text.split_once(' ').unwrap_or((text, ""))
+}
+
+// What stands in front of the first arrow, and behind it.
+pub fn sides(text: &str) -> (&str, &str) {
+    text.split_once(" => ").unwrap_or((text, ""))
+}
+
+// The three parts of a row, with arrows between; none of a comment.
+pub fn row(line: &str) -> Option<(&str, &str, &str)> {
+    if line.starts_with('#') {
+        return None;
+    }
+    let (first, rest) = sides(line);
+    let (second, third) = sides(rest);
+    Some((first, second, third))
 }
 
 // A number in decimal digits.
 pub fn number(word: &str) -> Result<u64, Fail> {
-    Ok(word.parse::<u64>().ok().ok_or("a number")?)
+    given(word.parse::<u64>(), "a number")
 }
 
 // A name of these bytes.
 pub fn name(alloc: Global, word: &str) -> Result<Name, Fail> {
     let bytes = Vec::from_slice(alloc, word.as_bytes())?;
-    Ok(Name::new(bytes).ok().ok_or("a name")?)
+    given(Name::new(bytes), "a name")
+}
+
+// So many bytes, each of them this one.
+pub fn filled(alloc: Global, byte: u8, count: u64) -> Result<Bytes, Fail> {
+    Ok(Bytes::from_vec(vec![in alloc; byte; count as usize]?))
 }
 
 // The bytes of a word: `-` is none, `*N` are N times `x`, a point stands for the byte 0.
@@ -36,8 +83,7 @@ pub fn bytes(alloc: Global, word: &str) -> Result<Bytes, Fail> {
         return Ok(Bytes::from_vec(Vec::new(alloc)));
     }
     if let Some(count) = word.strip_prefix('*') {
-        let count = number(count)?;
-        return Ok(Bytes::from_vec(vec![in alloc; b'x'; count as usize]?));
+        return filled(alloc, b'x', number(count)?);
     }
     let mut list = Vec::new(alloc);
     for byte in word.as_bytes() {
@@ -46,99 +92,127 @@ pub fn bytes(alloc: Global, word: &str) -> Result<Bytes, Fail> {
     Ok(Bytes::from_vec(list))
 }
 
-// A sub-operation in the words of a script, its bytes as above.
-fn op(alloc: Global, words: &[&str]) -> Result<SubOp, Fail> {
-    let first = word(words, 1);
-    let second = word(words, 2);
-    let made = match word(words, 0) {
-        "create" => SubOp::Create,
-        "writefull" => SubOp::WriteFull {
-            bytes: bytes(alloc, first)?,
-        },
-        "write" => SubOp::Write {
-            off: number(first)?,
-            bytes: bytes(alloc, second)?,
-        },
-        "append" => SubOp::Append {
-            bytes: bytes(alloc, first)?,
-        },
-        "zero" => SubOp::Zero {
-            off: number(first)?,
-            len: number(second)?,
-        },
-        "truncate" => SubOp::Truncate {
-            size: number(first)?,
-        },
-        "remove" => SubOp::Remove,
-        "omapclear" => SubOp::OmapClear,
-        "assert_exists" => SubOp::AssertExists,
-        "assert_ver" => SubOp::AssertVer {
-            ver: number(first)?,
-        },
-        "read" => SubOp::Read {
-            off: number(first)?,
-            len: number(second)?,
-        },
-        "stat" => SubOp::Stat,
-        "listxattrs" => SubOp::ListXattrs,
-        _ => return keyed(alloc, words),
-    };
-    Ok(made)
+// A sub-operation that is its verb alone.
+fn plain(verb: &str) -> Result<SubOp, Fail> {
+    match verb {
+        "create" => Ok(SubOp::Create),
+        "remove" => Ok(SubOp::Remove),
+        "omapclear" => Ok(SubOp::OmapClear),
+        "assert_exists" => Ok(SubOp::AssertExists),
+        "stat" => Ok(SubOp::Stat),
+        "listxattrs" => Ok(SubOp::ListXattrs),
+        _ => Err("a sub-operation".into()),
+    }
 }
 
-// The same of those that name a key.
-fn keyed(alloc: Global, words: &[&str]) -> Result<SubOp, Fail> {
-    let second = word(words, 2);
-    if word(words, 0) == "omaplist" {
-        let after = match word(words, 1) {
-            "-" => None,
-            after => Some(name(alloc, after)?),
-        };
-        let max = number(second)?;
-        return Ok(SubOp::OmapList { after, max });
+// One with a number.
+fn numbered(verb: &str, number: u64) -> SubOp {
+    match verb {
+        "truncate" => SubOp::Truncate { size: number },
+        _ => SubOp::AssertVer { ver: number },
     }
-    let key = name(alloc, word(words, 1))?;
-    let made = match word(words, 0) {
-        "setxattr" => SubOp::SetXattr {
-            key,
-            bytes: bytes(alloc, second)?,
-        },
+}
+
+// One with a range.
+fn ranged(verb: &str, off: u64, len: u64) -> SubOp {
+    match verb {
+        "zero" => SubOp::Zero { off, len },
+        _ => SubOp::Read { off, len },
+    }
+}
+
+// One with bytes and no key, at this place where it has one.
+fn carrying(verb: &str, off: u64, bytes: Bytes) -> SubOp {
+    match verb {
+        "writefull" => SubOp::WriteFull { bytes },
+        "append" => SubOp::Append { bytes },
+        _ => SubOp::Write { off, bytes },
+    }
+}
+
+// One with a key and bytes.
+fn putting(verb: &str, key: Name, bytes: Bytes) -> SubOp {
+    match verb {
+        "setxattr" => SubOp::SetXattr { key, bytes },
+        "omapset" => SubOp::OmapSet { key, bytes },
+        _ => SubOp::CmpXattr { key, bytes },
+    }
+}
+
+// One with a key alone.
+fn keyed(verb: &str, key: Name) -> SubOp {
+    match verb {
         "rmxattr" => SubOp::RmXattr { key },
-        "omapset" => SubOp::OmapSet {
-            key,
-            bytes: bytes(alloc, second)?,
-        },
         "omaprm" => SubOp::OmapRm { key },
-        "cmpxattr" => SubOp::CmpXattr {
-            key,
-            bytes: bytes(alloc, second)?,
-        },
         "getxattr" => SubOp::GetXattr { key },
-        "omapget" => SubOp::OmapGet { key },
-        _ => return Err("a sub-operation".into()),
-    };
-    Ok(made)
+        _ => SubOp::OmapGet { key },
+    }
+}
+
+// The key behind which a list goes on; `-` is none.
+fn after(alloc: Global, word: &str) -> Result<Option<Name>, Fail> {
+    match word {
+        "-" => Ok(None),
+        word => Ok(Some(name(alloc, word)?)),
+    }
+}
+
+// A list of entries.
+fn list(alloc: Global, after_word: &str, max: u64) -> Result<SubOp, Fail> {
+    let after = after(alloc, after_word)?;
+    Ok(SubOp::OmapList { after, max })
+}
+
+// One with a key and bytes, in words.
+fn pair(alloc: Global, verb: &str, first: &str, second: &str) -> Result<SubOp, Fail> {
+    let key = name(alloc, first)?;
+    Ok(putting(verb, key, bytes(alloc, second)?))
+}
+
+// A sub-operation in the words of a script, its bytes as above.
+fn op(alloc: Global, words: &[&str]) -> Result<SubOp, Fail> {
+    let verb = word(words, 0);
+    let first = word(words, 1);
+    let second = word(words, 2);
+    match verb {
+        "truncate" | "assert_ver" => Ok(numbered(verb, number(first)?)),
+        "zero" | "read" => Ok(ranged(verb, number(first)?, number(second)?)),
+        "writefull" | "append" => Ok(carrying(verb, 0, bytes(alloc, first)?)),
+        "write" => Ok(carrying(verb, number(first)?, bytes(alloc, second)?)),
+        "setxattr" | "omapset" | "cmpxattr" => pair(alloc, verb, first, second),
+        "rmxattr" | "omaprm" | "getxattr" | "omapget" => Ok(keyed(verb, name(alloc, first)?)),
+        "omaplist" => list(alloc, first, number(second)?),
+        _ => plain(verb),
+    }
+}
+
+// A sub-operation in a text.
+fn op_of(alloc: Global, text: &str) -> Result<SubOp, Fail> {
+    let words = text.split_whitespace().collect::<Vec<&str>>(alloc)?;
+    op(alloc, words.as_slice())
 }
 
 // A vector's sub-operations, with a `;` between them.
-pub fn ops(alloc: Global, text: &str) -> Result<Vec<SubOp>, Fail> {
+fn ops(alloc: Global, text: &str) -> Result<Vec<SubOp>, Fail> {
     let mut ops = Vec::new(alloc);
-    let mut words: Vec<&str> = Vec::new(alloc);
-    for next in text.split_whitespace() {
-        if next == ";" {
-            ops.push(op(alloc, words.as_slice())?)?;
-            words.clear();
-        } else {
-            words.push(next)?;
-        }
+    for one in text.split(" ; ") {
+        ops.push(op_of(alloc, one)?)?;
     }
-    ops.push(op(alloc, words.as_slice())?)?;
     Ok(ops)
 }
 
 // A vector in the words of a script.
 pub fn vector(alloc: Global, text: &str) -> Result<Vector, Fail> {
-    Ok(Vector::new(ops(alloc, text)?).ok().ok_or("a vector")?)
+    given(Vector::new(ops(alloc, text)?), "a vector")
+}
+
+// An object without bytes and entries.
+pub fn empty_object(alloc: Global) -> Obj {
+    Obj {
+        body: Bytes::from_vec(Vec::new(alloc)),
+        attrs: NameMap::new(alloc),
+        omap: NameMap::new(alloc),
+    }
 }
 
 // Bytes as they stand, with points for the byte 0; many are told by their number.
@@ -177,18 +251,22 @@ fn show_table(text: &mut String, table: &PairMap) -> Result<(), Fail> {
     Ok(())
 }
 
-// An object: its body, its attributes and its omap; or `none`.
+// The body, the attributes and the omap of an object.
+fn show_parts(text: &mut String, obj: &Obj) -> Result<(), Fail> {
+    show_bytes(text, obj.body.as_slice())?;
+    text.push('|')?;
+    show_table(text, &obj.attrs)?;
+    text.push('|')?;
+    show_table(text, &obj.omap)
+}
+
+// An object, as above; or `none`.
 pub fn show_obj(alloc: Global, obj: &Option<Obj>) -> Result<String, Fail> {
     let mut text = String::new(alloc);
-    let Some(obj) = obj else {
-        text.push_str("none")?;
-        return Ok(text);
-    };
-    show_bytes(&mut text, obj.body.as_slice())?;
-    text.push('|')?;
-    show_table(&mut text, &obj.attrs)?;
-    text.push('|')?;
-    show_table(&mut text, &obj.omap)?;
+    match obj {
+        Some(obj) => show_parts(&mut text, obj)?,
+        None => text.push_str("none")?,
+    }
     Ok(text)
 }
 
