@@ -135,7 +135,7 @@ fn acted_twice(alloc: Global, state: &mut NameState, req: &Req) -> Result<Answer
 }
 
 // A request of client 7 on the name a.
-fn request(alloc: Global, tid: u64, text: &str) -> Result<Req, Fail> {
+pub fn request(alloc: Global, tid: u64, text: &str) -> Result<Req, Fail> {
     let name = name(alloc, "a")?;
     Ok(Req {
         client: 7,

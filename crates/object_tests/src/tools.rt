@@ -193,7 +193,7 @@ fn op_of(alloc: Global, text: &str) -> Result<SubOp, Fail> {
 }
 
 // A vector's sub-operations, with a `;` between them.
-fn ops(alloc: Global, text: &str) -> Result<Vec<SubOp>, Fail> {
+pub fn ops(alloc: Global, text: &str) -> Result<Vec<SubOp>, Fail> {
     let mut ops = Vec::new(alloc);
     for one in text.split(" ; ") {
         ops.push(op_of(alloc, one)?)?;
