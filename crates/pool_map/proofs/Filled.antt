@@ -70,7 +70,6 @@ find_values q (r ∷ rs) rise =
       ]
     ]
 
-
 -- what the map has at a key: its slot's value
 pub filled_get : (m : SlotMap) (q : Key) → fin.get (filled m) q ≡ option_flatten (fin.get m q)
 unfolding filled
