@@ -33,7 +33,7 @@ pub struct HitSet {
 
 impl Model for HitSet {
     ghost use Rattle.std.specs.Prelude.{◌≡◌, min, length};
-    ghost use Rattle.hit_sets.specs.Sets.{Hits};
+    ghost use Rattle.hit_sets.specs.Sets.{Hits, full_at};
     ghost use Rattle.hit_sets.specs.Marks.{kind_of, marked_names};
 
     ghost Value = { Hits };
