@@ -91,9 +91,9 @@ fn enter<P: Store>(g: &mut Group<P>, line: u32, ask: &Ask) -> Begun
 
 /// Begins a client's call on this line: its first step. What is no client's is refused first; then
 /// a history that is full, and a group that is not ready, where no call is entered. A call that is
-/// entered is told Worn where numbers have come to their end, and else goes by the work on its name:
-/// it is turned away, or served from the record of its name. A fault that it meets there is its
-/// answer; without memory it ends without one.
+/// entered is told Worn where numbers have come to their end, and else goes by the work on its
+/// name: it is turned away, or served from the record of its name. A fault that it meets there is
+/// its answer; without memory it ends without one.
 ///
 /// Without a record, behind reads of its name that are with the base, and behind a write request
 /// that was left, it is not served yet: it ends without an answer.

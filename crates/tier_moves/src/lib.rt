@@ -1,8 +1,8 @@
 //! A client's call begins on a group.
 //!
-//! A call is entered and served, held up, or told why not, in one step: what comes of it, and which
-//! outcome comes when, is a relation by cases (`specs/Begins.antt`), made of what the methods of the
-//! group promise. Whatever comes of it, the group has made one step of a run.
+//! A call is entered and served, turned away, or told why not, in one step: what comes of it, and
+//! which outcome comes when, is a relation by cases (`specs/Begins.antt`), made of what the methods
+//! of the group promise. Whatever comes of it, the group has made one step of a run.
 #![tactic(auto)]
 
 mod asking;
