@@ -11,12 +11,16 @@ use Rattle.tier_core.specs.declared.fencing.Heard.{Heard}
 use Rattle.tier_core.specs.declared.fencing.Heard.TheVariants as heard
 use Rattle.tier_core.specs.declared.landing.Landing.{Landing}
 use Rattle.tier_core.specs.declared.landing.Landing.TheVariants as landing
+use Rattle.tier_moves.specs.Begins.{ClientBegins}
+use Rattle.tier_moves.specs.Choices.{Refuses, Where}
+use Rattle.tier_moves.specs.declared.begun.Begun.{Begun}
+use Rattle.tier_moves.specs.declared.begun.Begun.TheVariants as begun
 use Rattle.tier_node.specs.Replies.{topic_in, call_kept}
 use Rattle.tier_node.specs.declared.event.Event.{Event}
 use Rattle.tier_node.specs.declared.event.Event.TheVariants as event
 use Rattle.tier_node.specs.declared.outcome.Fault.TheVariants as fault
 use Rattle.tier_node.specs.declared.outcome.Outcome.{Outcome}
-use Rattle.tier_node.specs.declared.outcome.Outcome.TheVariants.{Answered, Going, Sent, Carried, Ready, NotReady, Failed, NoMemory, Set, Nothing}
+use Rattle.tier_node.specs.declared.outcome.Outcome.TheVariants.{Answered, HistoryFull, Unlawful, Unbuilt, Going, Sent, Carried, Ready, NotReady, Failed, NoMemory, Set, Nothing}
 use Rattle.tier_node.specs.declared.receiving.Topic.{Topic}
 use Rattle.tier_node.specs.declared.receiving.Topic.TheVariants as topic
 use Rattle.tier_stop.specs.Needs.{start_needed}
@@ -24,19 +28,34 @@ use Rattle.tier_stop.specs.Starts.{Starts}
 use Rattle.tier_stop.specs.declared.starting.Started.{Started}
 use Rattle.tier_stop.specs.declared.starting.Started.TheVariants as started
 use Rattle.tier_traffic.specs.Messages.{replied_of, sent_of}
+use Rattle.tier_types.specs.declared.flight.Ask.{Ask}
 use Rattle.tier_view.specs.Starts.{forgot_message, forgot_reply, with_base_stopped}
 use Rattle.tier_view.specs.Stops.{with_cache_stopped}
 use Rattle.tier_view.specs.Stores.{Stores}
 use Rattle.tier_view.specs.Views.{GroupView}
 use Rattle.tier_view.specs.Whole.{IsReady}
 
--- exactly where this is so it is the first, and else the second
-abbrev pub Where : (P First Second : Type 0) → Type 0
-Where P First Second = P × First ⊎ (P → ⊥) × Second
+-- ---- a client's call begins
 
--- this is told, and nothing has changed
-abbrev pub Refuses : Outcome → (old new : GroupView) → Outcome → Type 0
-Refuses told old new outcome = (outcome ≡ told) × (new ≡ old)
+-- what is told of it
+abbrev pub told_begun : Begun → Outcome
+told_begun begun.Unlawful = Unlawful
+told_begun (begun.HistoryFull entries bytes) = HistoryFull entries bytes
+told_begun begun.NotReady = NotReady
+told_begun (begun.Answered call) = Answered call
+told_begun (begun.Unbuilt what) = Unbuilt what
+told_begun begun.NoMemory = NoMemory
+
+pub record BeginsCall (line : ℕ) (ask : Ask) (old new : GroupView) (outcome : Outcome) : Type 0
+  where
+    pub came : Begun
+    pub begins : ClientBegins line ask old new came
+    pub told : outcome ≡ told_begun came
+
+-- it began, or there was not the memory for what it asks
+abbrev pub TakesCall : (line : ℕ) → Ask → (old new : GroupView) → Outcome → Type 0
+TakesCall line ask old new outcome =
+    BeginsCall line ask old new outcome ⊎ Refuses NoMemory old new outcome
 
 -- ---- a message reaches the base
 
@@ -161,6 +180,7 @@ pub record StartsBy (line call : Option ℕ) (old new : GroupView) (outcome : Ou
 -- ---- all events
 
 abbrev pub Steps : Event → (old new : GroupView) → Outcome → Type 0
+Steps (event.Client line ask) old new outcome = TakesCall line ask old new outcome
 Steps (event.Deliver message) old new outcome = Delivers message old new outcome
 Steps (event.Receive reply) old new outcome = Receives reply old new outcome
 Steps (event.Forget message) old new outcome = Forgets message old new outcome

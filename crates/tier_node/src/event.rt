@@ -1,8 +1,14 @@
 //! What may happen to a group.
+use tier_types::Ask;
 
 /// What may happen to a group.
-#[derive(Clone, Copy, Debug, PartialEq, Eq)]
+#[derive(Debug, Drop)]
 pub enum Event {
+    /// A client's call begins, on this line.
+    Client {
+        line: u32,
+        ask: Ask,
+    },
     /// The message of this number reaches the base. It stays, and may be delivered again.
     Deliver {
         message: u64,

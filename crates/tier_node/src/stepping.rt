@@ -4,6 +4,7 @@ ghost use Rattle.tier_node.specs.Steps.{Steps, Stops};
 ghost use Rattle.tier_view.specs.Starts.{with_base_stopped};
 ghost use Rattle.tier_view.specs.Stops.{with_cache_stopped};
 
+use crate::calling::begin;
 use crate::delivering::deliver;
 use crate::forgetting::{forget, forget_reply};
 use crate::receiving::receive;
@@ -36,6 +37,7 @@ pub fn step<P: Store>(g: &mut Group<P>, event: &Event) -> Outcome
     ensures run { IsRun g.old g.new }
 {
     match event {
+        Event::Client { line, ask } => begin(g, *line, ask),
         Event::Deliver { message } => deliver(g, *message),
         Event::Receive { reply } => receive(g, *reply),
         Event::Forget { message } => forget(g, *message),
