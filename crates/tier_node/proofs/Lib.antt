@@ -1,4 +1,7 @@
 pub mod Single
 pub mod Joined
 pub mod Delivered
+pub mod Faults
+pub mod StartFaults
+pub mod Turns
 pub mod Listed

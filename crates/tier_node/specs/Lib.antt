@@ -1,5 +1,9 @@
 -- what a reply is about
 pub mod Replies
+-- what a call is told that cannot go on
+pub mod Tells
+-- what a step of a start makes of a group
+pub mod Starting
 -- what an event makes of a group
 pub mod Steps
 -- lists of events

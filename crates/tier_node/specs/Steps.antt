@@ -4,6 +4,7 @@ use Rattle.base_pool.specs.declared.fault.BaseFault.TheVariants as base
 use Rattle.store_face.specs.declared.fault.StoreFault.TheVariants as store
 use Rattle.tier_core.specs.Deliveries.{IsDelivered}
 use Rattle.tier_core.specs.Fences.{Hears}
+use Rattle.tier_core.specs.Lacks.{LacksWrite}
 use Rattle.tier_core.specs.Lands.{HearsWrite}
 use Rattle.tier_core.specs.declared.delivering.Delivered.{Delivered}
 use Rattle.tier_core.specs.declared.delivering.Delivered.TheVariants as delivered
@@ -12,17 +13,14 @@ use Rattle.tier_core.specs.declared.fencing.Heard.TheVariants as heard
 use Rattle.tier_core.specs.declared.landing.Landing.{Landing}
 use Rattle.tier_core.specs.declared.landing.Landing.TheVariants as landing
 use Rattle.tier_node.specs.Replies.{topic_in, call_kept}
+use Rattle.tier_node.specs.Starting.{StartsFor}
 use Rattle.tier_node.specs.declared.event.Event.{Event}
 use Rattle.tier_node.specs.declared.event.Event.TheVariants as event
 use Rattle.tier_node.specs.declared.outcome.Fault.TheVariants as fault
 use Rattle.tier_node.specs.declared.outcome.Outcome.{Outcome}
-use Rattle.tier_node.specs.declared.outcome.Outcome.TheVariants.{Answered, Going, Sent, Carried, Ready, NotReady, Failed, NoMemory, Set, Nothing}
+use Rattle.tier_node.specs.declared.outcome.Outcome.TheVariants.{Answered, Going, Carried, Ready, NotReady, Failed, NoMemory, Set, Nothing}
 use Rattle.tier_node.specs.declared.receiving.Topic.{Topic}
 use Rattle.tier_node.specs.declared.receiving.Topic.TheVariants as topic
-use Rattle.tier_stop.specs.Needs.{start_needed}
-use Rattle.tier_stop.specs.Starts.{Starts}
-use Rattle.tier_stop.specs.declared.starting.Started.{Started}
-use Rattle.tier_stop.specs.declared.starting.Started.TheVariants as started
 use Rattle.tier_traffic.specs.Messages.{replied_of, sent_of}
 use Rattle.tier_view.specs.Starts.{forgot_message, forgot_reply, with_base_stopped}
 use Rattle.tier_view.specs.Stops.{with_cache_stopped}
@@ -103,6 +101,21 @@ abbrev pub TakesWrite : (number : ℕ) → (old new : GroupView) → Outcome →
 TakesWrite number old new outcome =
     HearsWrote number old new outcome ⊎ Refuses NoMemory old new outcome
 
+-- what is told of a want of room for a write request, by the call that was answered so
+abbrev pub told_lacked : Option ℕ → Outcome
+told_lacked None = Nothing
+told_lacked (Some call) = Answered call
+
+pub record HearsLack (number : ℕ) (old new : GroupView) (outcome : Outcome) : Type 0 where
+  pub came : Option ℕ
+  pub lacks : LacksWrite number old new came
+  pub told : outcome ≡ told_lacked came
+
+-- it was taken, or there was not the memory
+abbrev pub TakesLack : (number : ℕ) → (old new : GroupView) → Outcome → Type 0
+TakesLack number old new outcome =
+    HearsLack number old new outcome ⊎ Refuses NoMemory old new outcome
+
 -- Nothing where there is none. One that answers a Fence is heard; any other is NotReady exactly
 -- where the group is not ready.
 abbrev pub ReceivesOn : Option Topic → (number : ℕ) → (old new : GroupView) → Outcome → Type 0
@@ -110,6 +123,9 @@ ReceivesOn None number old new outcome = Refuses Nothing old new outcome
 ReceivesOn (Some topic.Fence) number old new outcome = HearsFence number old new outcome
 ReceivesOn (Some topic.Write) number old new outcome =
     Where (IsReady old.stores old.standing) (TakesWrite number old new outcome)
+    (Refuses NotReady old new outcome)
+ReceivesOn (Some topic.Room) number old new outcome =
+    Where (IsReady old.stores old.standing) (TakesLack number old new outcome)
     (Refuses NotReady old new outcome)
 ReceivesOn (Some topic.Other) number old new outcome =
     Where (IsReady old.stores old.standing) (Refuses Nothing old new outcome)
@@ -141,23 +157,6 @@ ForgetsReply number old new outcome = elim (replied_of old.traffic.replies numbe
 abbrev pub Stops : (GroupView → GroupView) → (old new : GroupView) → Outcome → Type 0
 Stops change old new outcome = Sets (change old) new outcome
 
--- ---- a start
-
--- what is told of a step of a start for this call
-abbrev pub told_started : (call : Option ℕ) → Started → Outcome
-told_started call started.Ready = Ready
-told_started call started.Going = Going call
-told_started call (started.Sent number) = Sent number
-told_started call (started.Failed f) = Failed (fault.Start f)
-told_started call started.NoMemory = NoMemory
-
--- the step that was needed first was made, or why it was not
-pub record StartsBy (line call : Option ℕ) (old new : GroupView) (outcome : Outcome) : Type 0
-  where
-    pub came : Started
-    pub starts : Starts (start_needed old) line call old new came
-    pub told : outcome ≡ told_started call came
-
 -- ---- all events
 
 abbrev pub Steps : Event → (old new : GroupView) → Outcome → Type 0
@@ -167,4 +166,4 @@ Steps (event.Forget message) old new outcome = Forgets message old new outcome
 Steps (event.ForgetReply reply) old new outcome = ForgetsReply reply old new outcome
 Steps event.StopCache old new outcome = Stops with_cache_stopped old new outcome
 Steps event.StopBase old new outcome = Stops with_base_stopped old new outcome
-Steps (event.Start line call) old new outcome = StartsBy line call old new outcome
+Steps (event.Start line call) old new outcome = StartsFor line call old new outcome

@@ -24,7 +24,8 @@ pub enum Event {
     /// The base stops.
     StopBase,
     /// The group is started further, by the step that is needed first. A Fence keeps this line and
-    /// this call.
+    /// this call. The call is told why a step was not made; with a line alone that is logged as a
+    /// call of its own.
     Start {
         line: Option<u32>,
         call: Option<u64>,

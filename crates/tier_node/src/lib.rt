@@ -8,6 +8,7 @@
 //! tell the group stands for one plain object store throughout.
 #![tactic(auto)]
 
+mod causes;
 mod delivering;
 mod event;
 mod forgetting;
@@ -16,6 +17,7 @@ mod receiving;
 mod running;
 mod starting;
 mod stepping;
+mod telling;
 
 pub use event::Event;
 pub use outcome::{Fault, Outcome};

@@ -7,6 +7,9 @@ use tier_stop::StartFault;
 pub enum Outcome {
     /// This call was answered, and is over.
     Answered { call: u64 },
+    /// The history has so many entries, which weigh so much, and takes no further call. Nothing
+    /// changed.
+    HistoryFull { entries: u64, bytes: u64 },
     /// One step more is needed, for this call or for none. The call goes on, or the group is to be
     /// started further.
     Going { call: Option<u64> },
@@ -20,7 +23,8 @@ pub enum Outcome {
     NotReady,
     /// What the event asked for failed, with this cause.
     Failed(Fault),
-    /// There was not the memory. No more was done than to read.
+    /// There was not the memory. No more was done than to read; a call for which a step of a start
+    /// was to be made is over without an answer.
     NoMemory,
     /// It was done, and there is no more to tell of it.
     Set,
