@@ -4,4 +4,5 @@ pub mod Delivered
 pub mod Faults
 pub mod StartFaults
 pub mod Turns
+pub mod KeptFences
 pub mod Listed

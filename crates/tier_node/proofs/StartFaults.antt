@@ -135,7 +135,7 @@ module _ (old new : GroupView) (whole : IsWhole old) (log : new.log ≡ old.log)
       (subst (λ (l : Log). faults_told Cache l.answers ≤ old.stores.cache.faults) (sym log)
       whole.counted.cache) rose few
 
-  base_failed : Rose old.stores.base.faults new.stores.base.faults
+  pub base_failed : Rose old.stores.base.faults new.stores.base.faults
       → faults_told Base new.log.answers < new.stores.base.faults
   base_failed rose =
       has_room Base new.log.answers old.stores.base.faults new.stores.base.faults

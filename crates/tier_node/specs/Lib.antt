@@ -4,6 +4,8 @@ pub mod Replies
 pub mod Tells
 -- what a step of a start makes of a group
 pub mod Starting
+-- whom a Fence keeps, and what they are told
+pub mod Keeping
 -- what an event makes of a group
 pub mod Steps
 -- lists of events

@@ -20,8 +20,8 @@ is_fence None = false
 is_fence (Some s) = asks_fence s.message
 
 -- What a reply is about, by the message that it answers, where that is not forgotten. A want of
--- room for a Fence has the operation's number 0; any other is about work. The two refusals of an epoch do not say what they
--- answer.
+-- room for a Fence has the operation's number 0; any other is about work. The two refusals of an
+-- epoch do not say what they answer.
 abbrev pub topic_of : Option Sent → BaseReply → Topic
 topic_of sent (BaseReply.Fenced e) = Fence
 topic_of sent (BaseReply.NoSpace e op used need limit) = if op == 0 then Fence else Room

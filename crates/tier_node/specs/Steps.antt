@@ -12,8 +12,9 @@ use Rattle.tier_core.specs.declared.fencing.Heard.{Heard}
 use Rattle.tier_core.specs.declared.fencing.Heard.TheVariants as heard
 use Rattle.tier_core.specs.declared.landing.Landing.{Landing}
 use Rattle.tier_core.specs.declared.landing.Landing.TheVariants as landing
+use Rattle.tier_node.specs.Keeping.{FailsKept, RefusesKept, is_own_fence, refusal_in}
 use Rattle.tier_node.specs.Replies.{topic_in, call_kept}
-use Rattle.tier_node.specs.Starting.{StartsFor}
+use Rattle.tier_node.specs.Starting.{IfSo, StartsFor}
 use Rattle.tier_node.specs.declared.event.Event.{Event}
 use Rattle.tier_node.specs.declared.event.Event.TheVariants as event
 use Rattle.tier_node.specs.declared.outcome.Fault.TheVariants as fault
@@ -27,6 +28,7 @@ use Rattle.tier_view.specs.Stops.{with_cache_stopped}
 use Rattle.tier_view.specs.Stores.{Stores}
 use Rattle.tier_view.specs.Views.{GroupView}
 use Rattle.tier_view.specs.Whole.{IsReady}
+use Rattle.tier_view.specs.declared.parts.Sent.{Sent}
 
 -- exactly where this is so it is the first, and else the second
 abbrev pub Where : (P First Second : Type 0) → Type 0
@@ -62,12 +64,28 @@ pub record HandsOver (number : ℕ) (old new : GroupView) (outcome : Outcome) : 
   pub comes : IsDelivered number old new came
   pub told : outcome ≡ told_delivered came
 
+-- The base was handed a Fence of the cache's epoch. Those whom it keeps are told that it failed.
+abbrev pub EndsFence : Delivered → (old new : GroupView) → Outcome → Type 0
+EndsFence (delivered.Failed f) old new outcome = FailsKept f old new outcome
+EndsFence came old new outcome = Refuses (told_delivered came) old new outcome
+
+pub record HandsFence (number : ℕ) (old new : GroupView) (outcome : Outcome) : Type 0 where
+  pub behind : GroupView
+  pub came : Delivered
+  pub comes : IsDelivered number old behind came
+  pub ends : EndsFence came behind new outcome
+
+abbrev pub HandsMessage : Sent → (number : ℕ) → (old new : GroupView) → Outcome → Type 0
+HandsMessage m number old new outcome =
+    IfSo (is_own_fence old.standing.cache_epoch m.message) (HandsFence number old new outcome)
+    (HandsOver number old new outcome)
+
 -- Nothing exactly where there is no message of the number; else NotReady exactly where the stores
 -- are not live.
 abbrev pub Delivers : (number : ℕ) → (old new : GroupView) → Outcome → Type 0
 Delivers number old new outcome = elim (sent_of old.traffic.messages number) [
   | None ↦ Refuses Nothing old new outcome
-  | Some m ↦ Where (AreLive old.stores) (HandsOver number old new outcome)
+  | Some m ↦ Where (AreLive old.stores) (HandsMessage m number old new outcome)
       (Refuses NotReady old new outcome)
 ]
 
@@ -80,10 +98,18 @@ TellsHeard heard.Other call new outcome = outcome ≡ Nothing
 TellsHeard h call new outcome =
     Where (IsReady new.stores new.standing) (outcome ≡ Ready) (outcome ≡ Going call)
 
-pub record HearsFence (number : ℕ) (old new : GroupView) (outcome : Outcome) : Type 0 where
+pub record HearsFenced (number : ℕ) (old new : GroupView) (outcome : Outcome) : Type 0 where
   pub came : Heard
   pub hears : Hears number old new came
   pub told : TellsHeard came (call_kept old.standing.kept) new outcome
+
+-- those whom the Fence keeps are told that it was refused
+abbrev pub HearsFence : (number : ℕ) → (old new : GroupView) → Outcome → Type 0
+HearsFence number old new outcome =
+    elim (refusal_in old.standing.cache_epoch old.traffic number) [
+      | None ↦ HearsFenced number old new outcome
+      | Some r ↦ RefusesKept r old new outcome
+    ]
 
 -- what is told of a reply to a write request
 abbrev pub told_landed : Landing → Outcome

@@ -10,8 +10,8 @@ use tier_chron::Answer;
 use tier_core::{OpenFault, RaiseFault};
 use tier_stop::StartFault;
 
-// The answer that tells of a fault of a pool's store; none tells of want of memory.
-fn store_answer(pool: Pool, fault: StoreFault) -> Option<Answer>
+/// The answer that tells of a fault of a pool's store; none tells of want of memory.
+pub(crate) fn store_answer(pool: Pool, fault: StoreFault) -> Option<Answer>
     ensures { result ≡ store_answer pool fault }
 {
     match fault {

@@ -12,6 +12,7 @@ mod causes;
 mod delivering;
 mod event;
 mod forgetting;
+mod keeping;
 mod outcome;
 mod receiving;
 mod running;

@@ -3,9 +3,10 @@ ghost use Rattle.std.specs.Option.{option_copied, option_map};
 ghost use Rattle.std.specs.Prelude.{◌≡◌, None, IfOk, OnErr};
 ghost use Rattle.tier_node.specs.Replies.{topic_of, topic_in, call_kept, is_fence};
 ghost use Rattle.tier_node.specs.Runs.{IsRun};
-ghost use Rattle.tier_node.specs.Steps.{HearsFence, Receives, TakesLack, TakesWrite, TellsHeard, told_lacked, told_landed};
+ghost use Rattle.tier_node.specs.Steps.{HearsFence, HearsFenced, Receives, TakesLack, TakesWrite, TellsHeard, told_lacked, told_landed};
 
 use crate::Outcome;
+use crate::keeping::{refusal_in, refuse_kept};
 use store_face::Store;
 use tier_core::{Group, Heard, Landing};
 use tier_types::{BaseMsg, BaseReply};
@@ -77,14 +78,27 @@ fn told_heard<P: Store>(g: &Group<P>, heard: Heard, call: Option<u64>) -> Outcom
     }
 }
 
-// Hears a reply that answers a Fence.
-fn hear_fence<P: Store>(g: &mut Group<P>, reply: u64) -> Outcome
-    ensures steps { HearsFence reply g.old g.new result }
+// Hears a reply that answers a Fence, and does not refuse it.
+fn hear_fenced<P: Store>(g: &mut Group<P>, reply: u64) -> Outcome
+    ensures steps { HearsFenced reply g.old g.new result }
     ensures run { IsRun g.old g.new }
 {
     let call = call_kept(g);
     let heard = g.hear_fenced(reply);
     told_heard(g, heard, call)
+}
+
+// Hears a reply that answers a Fence. Where it refuses a Fence of the cache's epoch, those whom the
+// last Fence keeps are told so.
+fn hear_fence<P: Store>(g: &mut Group<P>, reply: u64) -> Outcome
+    ensures steps { HearsFence reply g.old g.new result }
+    ensures run { IsRun g.old g.new }
+{
+    g.rest();
+    match refusal_in(g, reply) {
+        Some(refusal) => refuse_kept(g, refusal),
+        None => hear_fenced(g, reply),
+    }
 }
 
 // What is told of a reply to a write request.

@@ -54,8 +54,9 @@ fn fail_call<P: Store>(g: &mut Group<P>, turn: Turn, fault: StartFault) -> Outco
     }
 }
 
-// Logs why a step was not made, as a call of its own, which has been answered and is over.
-fn log_answer<P: Store>(g: &mut Group<P>, line: u32, answer: Answer) -> Outcome
+/// Logs why a step was not made, as a call of its own on this line, which asked to start the group:
+/// it is answered, and over.
+pub(crate) fn log_answer<P: Store>(g: &mut Group<P>, line: u32, answer: Answer) -> Outcome
     requires kind { is_start_fault answer ≡ true }
     requires so { length g.old.log.answers ≤ entries_limit → IsSo g.old answer }
     ensures logs { LogsIf line (Some answer) g.old g.new result }

@@ -1,7 +1,7 @@
 use Rattle.std.proofs.Common.{Option, ℕ, subst}
 use Rattle.tier_node.proofs.Single.{doubting}
 use Rattle.tier_node.specs.Steps.{TellsHeard}
-use Rattle.tier_node.proofs.receiving.hear_fence.Goals as goal
+use Rattle.tier_node.proofs.receiving.hear_fenced.Goals as goal
 
 pub returns-clause-steps : goal.returns-clause-steps
 returns-clause-steps g c = record {
