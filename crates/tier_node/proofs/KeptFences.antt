@@ -1,13 +1,12 @@
 -- Why a Fence failed, and how it was refused.
-use Rattle.std.proofs.Common.{◌≡◌, ◌≤◌, ◌<◌, ◌⊎◌, inl, inr, ◌+◌, ◌==◌, ℕ, Bool, true, false, if◌then◌else◌, List, [], ◌∷◌, cond, map, length, Option, Some, None, Result, Ok, Err, refl, sym, ap, subst, ◌∙◌}
+use Rattle.std.proofs.Common.{◌≡◌, ◌≤◌, ◌<◌, ◌⊎◌, inl, inr, ◌+◌, ◌==◌, ℕ, Bool, true, false, if◌then◌else◌, List, [], ◌∷◌, cond, map, length, Option, Some, None, Err, refl, sym, ap, subst, ◌∙◌}
 use Rattle.base_pool.specs.Serves.{Serves}
 use Rattle.base_pool.specs.Views.{BaseView}
 use Rattle.base_pool.specs.declared.fault.BaseFault.{BaseFault}
 use Rattle.base_pool.specs.declared.fault.BaseFault.TheVariants as base
 use Rattle.store_face.specs.declared.fault.StoreFault.TheVariants as store
 use Rattle.tier_chron.proofs.Lists.{either_way}
-use Rattle.tier_chron.specs.Logs.{Log}
-use Rattle.tier_core.specs.Deliveries.{ComesOf, IsDelivered, WasHanded}
+use Rattle.tier_core.specs.Deliveries.{Becomes, ComesOf, FailsFirst, IsDelivered, WasHanded}
 use Rattle.tier_core.specs.Held.{entries_limit}
 use Rattle.tier_core.specs.declared.delivering.Delivered.{Delivered}
 use Rattle.tier_core.specs.declared.delivering.Delivered.TheVariants as delivered
@@ -55,13 +54,14 @@ became_log v w m p new (base.Store (store.Worn limit)) h = ap (λ (x : GroupView
 became_log v w m p new (base.Store store.NoMemory) h = ap (λ (x : GroupView). x.log) h.1
 became_log v w m p new (base.BadRecord name) h = ap (λ (x : GroupView). x.log) h.1
 
+either_log : (v w : GroupView) (m : Sent) (f : BaseFault)
+    → Becomes v w m (Err f) None ⊎ FailsFirst v w (Err f) None → w.log ≡ v.log
+either_log v w m f (inl b) = became_log v w m b.doubt (base_of true w) f b.became
+either_log v w m f (inr b) = ap (λ (x : GroupView). x.log) b.is
+
 handed_log : (v w : GroupView) (m : Sent) (f : BaseFault) → WasHanded v w m (Err f) None
     → w.log ≡ v.log
-handed_log v w m f h = by h.becomes
-  where
-    by : _ → w.log ≡ v.log
-    by (inl b) = became_log v w m b.doubt (base_of true w) f b.became
-    by (inr b) = ap (λ (x : GroupView). x.log) b.is
+handed_log v w m f h = either_log v w m f h.becomes
 
 -- every call may be told why the base did not serve a message
 for_all : (msg : BaseMsg) (old new : BaseView) (f : BaseFault) → Serves msg old new (Err f)

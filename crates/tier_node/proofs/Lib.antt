@@ -4,5 +4,6 @@ pub mod Delivered
 pub mod Faults
 pub mod StartFaults
 pub mod Turns
+pub mod Restarts
 pub mod KeptFences
 pub mod Listed

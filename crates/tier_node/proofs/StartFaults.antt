@@ -1,18 +1,18 @@
 -- Why a step of a start was not made, as an answer.
-use Rattle.std.proofs.Common.{◌≡◌, ◌≤◌, ◌<◌, ◌+◌, ◌||◌, ℕ, Bool, true, false, true≢false, List, [], ◌∷◌, length, Option, Some, None, Ok, Err, refl, sym, ap, subst, ◌∙◌, arith}
+use Rattle.std.proofs.Common.{◌≡◌, ◌≤◌, ◌<◌, ◌||◌, ◌&&◌, ℕ, Bool, true, false, true≢false, List, [], ◌∷◌, length, Option, Some, None, Err, refl, sym, ap, subst, ◌∙◌, arith}
 use Rattle.cache_pool.specs.Puts.{Commits, epoch_put}
 use Rattle.cache_pool.specs.declared.fault.CacheFault.TheVariants as cached
 use Rattle.obj_model.specs.declared.change.Change.{Change}
 use Rattle.obj_model.specs.declared.change.Pool.{Pool}
 use Rattle.obj_model.specs.declared.change.Pool.TheVariants.{Cache, Base}
-use Rattle.store_face.specs.Calls.{Committed, ReadFails}
-use Rattle.store_face.specs.Views.{StoreView}
+use Rattle.store_face.specs.Calls.{ReadFails}
 use Rattle.store_face.specs.declared.fault.StoreFault.{StoreFault}
 use Rattle.store_face.specs.declared.fault.StoreFault.TheVariants as store
 use Rattle.tier_chron.specs.Logs.{Log}
-use Rattle.tier_chron.specs.Shapes.{is_reading_fault, is_start_fault}
+use Rattle.tier_chron.specs.Shapes.{is_reading_fault, is_start_fault, may_answer}
 use Rattle.tier_chron.specs.declared.answer.Answer.{Answer}
 use Rattle.tier_chron.specs.declared.answer.Answer.TheVariants as answer
+use Rattle.tier_chron.specs.declared.asked.Asked.{Asked}
 use Rattle.tier_chron.specs.declared.entries.Logged.{Logged}
 use Rattle.tier_core.specs.Held.{entries_limit}
 use Rattle.tier_core.specs.Opens.{OpenFails, OpensBase, OpensCache}
@@ -21,8 +21,9 @@ use Rattle.tier_core.specs.declared.opening.OpenFault.{OpenFault}
 use Rattle.tier_core.specs.declared.opening.OpenFault.TheVariants as opening
 use Rattle.tier_core.specs.declared.raising.RaiseFault.{RaiseFault}
 use Rattle.tier_core.specs.declared.raising.RaiseFault.TheVariants as raising
-use Rattle.tier_node.specs.Starting.{is_hard, is_hard_open, is_hard_raise, is_hard_store, open_answer, raise_answer, start_answer, store_answer}
-use Rattle.tier_node.specs.Tells.{IsSo, IsSoIf}
+use Rattle.tier_node.proofs.Faults.{every_call, lasting_call}
+use Rattle.tier_node.specs.Starting.{is_brief, is_hard, is_hard_open, is_hard_raise, is_hard_store, is_untold, is_untold_to, open_answer, raise_answer, start_answer, store_answer}
+use Rattle.tier_node.specs.Tells.{IsSoIf}
 use Rattle.tier_outside.specs.Causes.{Rose}
 use Rattle.tier_stop.specs.Starts.{Makes, Starts}
 use Rattle.tier_stop.specs.declared.choosing.StartStep.{StartStep}
@@ -33,7 +34,6 @@ use Rattle.tier_stop.specs.declared.starting.Started.TheVariants as started
 use Rattle.tier_view.specs.Views.{GroupView}
 use Rattle.tier_view.specs.Starts.{raised_there}
 use Rattle.tier_view.specs.Whole.{IsWhole, faults_told, tells_fault}
-use Rattle.tier_view.specs.declared.parts.Entry.{Entry}
 
 -- ---- which call failed
 
@@ -276,3 +276,16 @@ start_starts (start.Raise f) = raise_starts f
 
 pub starts_by : (f : StartFault) (x : Answer) → Some x ≡ start_answer f → is_start_fault x ≡ true
 starts_by f x is = subst (Each is_start_fault) (sym is) (start_starts f)
+
+-- a call may be told a fault that is not hard, or where it goes on over several steps
+pub told_kind : (asked : Asked) (f : StartFault) (x : Answer) (brief : Bool)
+    → brief ≡ is_brief asked → is_untold_to brief f ≡ false
+    → Some x ≡ start_answer f → may_answer asked x ≡ true
+told_kind asked f x brief is told at = by (is_untold f) (is_hard f) refl brief refl told
+  where
+    by : (u h : Bool) → is_hard f ≡ h → (b : Bool) → brief ≡ b → (u || (h && b)) ≡ false
+        → may_answer asked x ≡ true
+    by true h hard b same k = absurd (true≢false k)
+    by false false hard b same k = every_call asked x (reads_by f x hard at)
+    by false true hard true same k = absurd (true≢false k)
+    by false true hard false same k = lasting_call asked x (sym is ∙ same) (starts_by f x at)

@@ -1,7 +1,7 @@
 -- The turns of calls that are told why a start failed.
-use Rattle.std.proofs.Common.{◌≡◌, ◌≤◌, inl, inr, ◌+◌, ℕ, Bool, true, false, List, length, Option, Some, None, refl, sym, ap, subst, ◌∙◌}
+use Rattle.std.proofs.Common.{◌≡◌, ◌+◌, ℕ, Bool, true, false, List, length, Some, refl, sym, ap, subst, ◌∙◌}
 use Rattle.obj_model.specs.declared.change.Pool.TheVariants.{Cache, Base}
-use Rattle.tier_chron.specs.Shapes.{is_reading_fault, is_start_fault}
+use Rattle.tier_chron.specs.Shapes.{is_reading_fault, is_start_fault, may_answer}
 use Rattle.tier_chron.specs.declared.answer.Answer.{Answer}
 use Rattle.tier_chron.specs.declared.answer.Answer.TheVariants as answer
 use Rattle.tier_chron.specs.declared.asked.Asked.TheVariants as asked
@@ -12,6 +12,7 @@ use Rattle.tier_node.specs.Starting.{IfSo, turn_next, with_start}
 use Rattle.tier_node.specs.Tells.{IsSo, MayBeTold, Tells}
 use Rattle.tier_node.specs.declared.outcome.Outcome.{Outcome}
 use Rattle.tier_view.specs.Calls.{entry_of}
+use Rattle.tier_view.specs.Starts.{forgot_kept}
 use Rattle.tier_view.specs.Steps.{entry_for}
 use Rattle.tier_view.specs.Views.{GroupView}
 use Rattle.tier_view.specs.Whole.{IsWhole}
@@ -44,6 +45,29 @@ may_be_told v turn x h is = record {
   asked = h.entry.asked;
   turn_is = record { entry = h.entry; is = h.is; turn_is = h.turn_is; asked_is = refl };
   kind = every_call h.entry.asked x is;
+}
+
+-- the same of what it asked
+pub may_by : (v : GroupView) (turn : Turn) (x : Answer) (h : HasTurn v turn.call turn)
+    → may_answer h.entry.asked x ≡ true → MayBeTold v turn x
+may_by v turn x h kind = record {
+  asked = h.entry.asked;
+  turn_is = record { entry = h.entry; is = h.is; turn_is = h.turn_is; asked_is = refl };
+  kind = kind;
+}
+
+-- what a Fence keeps is forgotten
+pub forgot_may : (v : GroupView) (turn : Turn) (x : Answer) → MayBeTold v turn x
+    → MayBeTold (forgot_kept v) turn x
+forgot_may v turn x h = record {
+  asked = h.asked;
+  turn_is = record {
+    entry = h.turn_is.entry;
+    is = h.turn_is.is;
+    turn_is = h.turn_is.turn_is;
+    asked_is = h.turn_is.asked_is;
+  };
+  kind = h.kind;
 }
 
 -- ---- a call that is entered for a line

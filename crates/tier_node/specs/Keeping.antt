@@ -10,7 +10,7 @@ use Rattle.tier_chron.specs.declared.answer.Answer.{Answer}
 use Rattle.tier_chron.specs.declared.answer.Answer.TheVariants as answer
 use Rattle.tier_core.specs.Turns.{HasNoTurn, HasTurn}
 use Rattle.tier_core.specs.declared.turns.Turn.{Turn}
-use Rattle.tier_node.specs.Starting.{Leaves, LogsIf, store_answer}
+use Rattle.tier_node.specs.Starting.{IfSo, Leaves, LogsIf, is_brief_in, store_answer}
 use Rattle.tier_node.specs.Tells.{Tells}
 use Rattle.tier_node.specs.declared.keeping.Refusal.{Refusal}
 use Rattle.tier_node.specs.declared.keeping.Refusal.TheVariants as refusal
@@ -22,6 +22,7 @@ use Rattle.tier_node.specs.declared.outcome.Outcome.TheVariants.{Failed, NoMemor
 use Rattle.tier_traffic.specs.Messages.{replied_of, sent_of}
 use Rattle.tier_types.specs.declared.message.BaseMsg.{BaseMsg}
 use Rattle.tier_types.specs.declared.message.BaseReply.{BaseReply}
+use Rattle.tier_view.specs.Calls.{entry_of}
 use Rattle.tier_view.specs.Starts.{forgot_kept}
 use Rattle.tier_view.specs.Traffic.{Traffic}
 use Rattle.tier_view.specs.Views.{GroupView}
@@ -112,18 +113,21 @@ refusal_of epoch sent (BaseReply.NoSpace e op used need limit) =
 refusal_of epoch sent other = None
 
 -- By whom it keeps: another epoch is told as a base whose value of its epoch spells nothing, since
--- no base over a store that tells refuses so. Want of room is told to no call: not every call may
--- be answered so.
+-- no base over a store that tells refuses so. Want of room is not told to a call that ends with its
+-- first step.
 abbrev pub RefusesWhom : Whom → Refusal → (old new : GroupView) → Outcome → Type 0
 RefusesWhom (whom.Call turn) refusal.Epoch old new outcome =
     TellsCall turn (answer.BadRecord Base epoch_key) old new outcome
     ⊎ Leaves NoMemory old new outcome
+RefusesWhom (whom.Call turn) (refusal.Room used need limit) old new outcome =
+    IfSo (is_brief_in (entry_of old.calls.entries turn.call)) (Leaves Nothing old new outcome)
+    (TellsCall turn (answer.NoSpace Base used need limit) old new outcome)
 RefusesWhom (whom.Line line) refusal.Epoch old new outcome =
     TellsLine line (answer.BadRecord Base epoch_key) old new outcome
     ⊎ Leaves NoMemory old new outcome
 RefusesWhom (whom.Line line) (refusal.Room used need limit) old new outcome =
     TellsLine line (answer.NoSpace Base used need limit) old new outcome
-RefusesWhom who r old new outcome = Leaves Nothing old new outcome
+RefusesWhom whom.Nobody r old new outcome = Leaves Nothing old new outcome
 
 -- a want of room has numbers that are one
 abbrev pub IsOverIf : Refusal → Type 0

@@ -6,6 +6,8 @@ pub mod Tells
 pub mod Starting
 -- whom a Fence keeps, and what they are told
 pub mod Keeping
+-- how a call goes on
+pub mod Advancing
 -- what an event makes of a group
 pub mod Steps
 -- lists of events

@@ -1,5 +1,5 @@
 -- What a step of a start makes of a group, and what is told of it.
-use Rattle.std.specs.Prelude.{◌≡◌, ◌⊎◌, ◌≤◌, ◌+◌, ◌||◌, ℕ, Bool, true, false, not, length, Option, Some, None}
+use Rattle.std.specs.Prelude.{◌≡◌, ◌⊎◌, ◌+◌, ◌||◌, ◌&&◌, ℕ, Bool, true, false, not, length, Option, Some, None}
 use Rattle.cache_pool.specs.declared.fault.CacheFault.TheVariants as cached
 use Rattle.obj_model.specs.declared.change.Pool.{Pool}
 use Rattle.obj_model.specs.declared.change.Pool.TheVariants as pool
@@ -9,6 +9,7 @@ use Rattle.store_face.specs.declared.fault.StoreFault.{StoreFault}
 use Rattle.store_face.specs.declared.fault.StoreFault.TheVariants as store
 use Rattle.tier_chron.specs.declared.answer.Answer.{Answer}
 use Rattle.tier_chron.specs.declared.answer.Answer.TheVariants as answer
+use Rattle.tier_chron.specs.declared.asked.Asked.{Asked}
 use Rattle.tier_chron.specs.declared.asked.Asked.TheVariants as asked
 use Rattle.tier_core.specs.Held.{IsFull, IsFullWith}
 use Rattle.tier_core.specs.Turns.{HasNoTurn, HasTurn}
@@ -28,8 +29,10 @@ use Rattle.tier_stop.specs.declared.starting.StartFault.{StartFault}
 use Rattle.tier_stop.specs.declared.starting.StartFault.TheVariants as start
 use Rattle.tier_stop.specs.declared.starting.Started.{Started}
 use Rattle.tier_stop.specs.declared.starting.Started.TheVariants as started
+use Rattle.tier_view.specs.Calls.{entry_of}
 use Rattle.tier_view.specs.Steps.{opened_call}
 use Rattle.tier_view.specs.Views.{GroupView}
+use Rattle.tier_view.specs.declared.parts.Entry.{Entry}
 
 -- ---- without a call and a line
 
@@ -97,8 +100,8 @@ is_untold (start.Cache f) = is_unsaid f
 is_untold (start.Base f) = is_unsaid f
 is_untold (start.Raise f) = false
 
--- Not every call may be answered so: no flush that only begins meets a commit, and neither that nor
--- an eviction opens a store.
+-- A call that ends with its first step is not answered so: no flush that only begins meets a
+-- commit, and neither that nor an eviction opens a store.
 abbrev pub is_hard_store : StoreFault → Bool
 is_hard_store (store.BadImage at) = true
 is_hard_store (store.NoSpace used need limit) = true
@@ -118,6 +121,20 @@ is_hard (start.Cache f) = is_hard_open f
 is_hard (start.Base f) = is_hard_open f
 is_hard (start.Raise f) = is_hard_raise f
 
+-- a call that asked this ends with its first step
+abbrev pub is_brief : Asked → Bool
+is_brief (asked.Flush name blocking begin_only) = begin_only
+is_brief (asked.Evict name) = true
+is_brief other = false
+
+abbrev pub is_brief_in : Option Entry → Bool
+is_brief_in None = false
+is_brief_in (Some e) = is_brief e.asked
+
+-- the call of an entry is not told so, by whether it ends with its first step
+abbrev pub is_untold_to : (brief : Bool) → StartFault → Bool
+is_untold_to brief f = is_untold f || (is_hard f && brief)
+
 -- ---- with a call
 
 -- the first where it is so, else the second
@@ -131,24 +148,25 @@ Leaves told old new outcome = (outcome ≡ told) × (new ≡ old)
 
 -- the call is told why a step was not made, and is over; a fault that it cannot be told is the
 -- event's
-abbrev pub FailsCall : Turn → StartFault → (old new : GroupView) → Outcome → Type 0
-FailsCall turn f old new outcome =
-    IfSo (is_untold f || is_hard f) (Leaves (Failed (fault.Start f)) old new outcome)
+abbrev pub FailsCall : Turn → (brief : Bool) → StartFault → (old new : GroupView) → Outcome
+    → Type 0
+FailsCall turn brief f old new outcome =
+    IfSo (is_untold_to brief f) (Leaves (Failed (fault.Start f)) old new outcome)
     (TellsIf turn (start_answer f) old new outcome)
 
 -- what is told behind the step
-abbrev pub EndsStart : Turn → Started → (old new : GroupView) → Outcome → Type 0
-EndsStart turn (started.Failed f) old new outcome = FailsCall turn f old new outcome
-EndsStart turn started.NoMemory old new outcome = Drops turn.call old new outcome
-EndsStart turn came old new outcome =
+abbrev pub EndsStart : Turn → (brief : Bool) → Started → (old new : GroupView) → Outcome → Type 0
+EndsStart turn brief (started.Failed f) old new outcome = FailsCall turn brief f old new outcome
+EndsStart turn brief started.NoMemory old new outcome = Drops turn.call old new outcome
+EndsStart turn brief came old new outcome =
     Leaves (told_started (Some turn.call) came) old new outcome
 
-pub record StartsCall (line : Option ℕ) (turn : Turn) (old new : GroupView) (outcome : Outcome)
-    : Type 0 where
+pub record StartsCall (line : Option ℕ) (turn : Turn) (brief : Bool) (old new : GroupView)
+    (outcome : Outcome) : Type 0 where
   pub behind : GroupView
   pub came : Started
   pub starts : Starts (start_needed old) line (Some turn.call) old behind came
-  pub ends : EndsStart turn came behind new outcome
+  pub ends : EndsStart turn brief came behind new outcome
 
 -- ---- with a line alone
 
@@ -194,7 +212,8 @@ pub record IsRefusedFull (old new : GroupView) (outcome : Outcome) : Type 0 wher
 -- where the history is full.
 abbrev pub StartsFor : (line call : Option ℕ) → (old new : GroupView) → Outcome → Type 0
 StartsFor line (Some call) old new outcome =
-    ((turn : Turn) × HasTurn old call turn × StartsCall line turn old new outcome)
+    ((turn : Turn) × HasTurn old call turn
+    × StartsCall line turn (is_brief_in (entry_of old.calls.entries call)) old new outcome)
     ⊎ (HasNoTurn old call × Leaves Nothing old new outcome)
 StartsFor (Some line) None old new outcome =
     IsRefusedFull old new outcome ⊎ ((IsFull old → ⊥) × StartsLine line old new outcome)

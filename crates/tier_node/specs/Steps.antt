@@ -12,6 +12,7 @@ use Rattle.tier_core.specs.declared.fencing.Heard.{Heard}
 use Rattle.tier_core.specs.declared.fencing.Heard.TheVariants as heard
 use Rattle.tier_core.specs.declared.landing.Landing.{Landing}
 use Rattle.tier_core.specs.declared.landing.Landing.TheVariants as landing
+use Rattle.tier_node.specs.Advancing.{Advances}
 use Rattle.tier_node.specs.Keeping.{FailsKept, RefusesKept, is_own_fence, refusal_in}
 use Rattle.tier_node.specs.Replies.{topic_in, call_kept}
 use Rattle.tier_node.specs.Starting.{IfSo, StartsFor}
@@ -192,4 +193,5 @@ Steps (event.Forget message) old new outcome = Forgets message old new outcome
 Steps (event.ForgetReply reply) old new outcome = ForgetsReply reply old new outcome
 Steps event.StopCache old new outcome = Stops with_cache_stopped old new outcome
 Steps event.StopBase old new outcome = Stops with_base_stopped old new outcome
+Steps (event.Advance call) old new outcome = Advances call old new outcome
 Steps (event.Start line call) old new outcome = StartsFor line call old new outcome

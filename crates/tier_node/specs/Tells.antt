@@ -1,5 +1,5 @@
 -- What a call is told that cannot go on.
-use Rattle.std.specs.Prelude.{◌≡◌, ◌⊎◌, ◌<◌, ◌+◌, ℕ, true, length, Option, Some, None}
+use Rattle.std.specs.Prelude.{◌≡◌, ◌⊎◌, ◌<◌, ◌≤◌, ◌+◌, ℕ, true, length, Option, Some, None}
 use Rattle.obj_model.specs.Limits.{number_limit}
 use Rattle.obj_model.specs.declared.change.Pool.TheVariants.{Cache, Base}
 use Rattle.tier_chron.specs.Logs.{Log}
@@ -13,8 +13,9 @@ use Rattle.tier_core.specs.Turns.{IsTurn}
 use Rattle.tier_core.specs.declared.turns.Turn.{Turn}
 use Rattle.tier_node.specs.declared.outcome.Outcome.{Outcome}
 use Rattle.tier_node.specs.declared.outcome.Outcome.TheVariants.{Answered, NoMemory}
+use Rattle.tier_view.specs.Calls.{entry_of}
 use Rattle.tier_view.specs.Views.{GroupView}
-use Rattle.tier_view.specs.Whole.{faults_told}
+use Rattle.tier_view.specs.Whole.{IsFirstEpoch, faults_told}
 
 -- what a fault tells is so: a limit is that of all numbers, more is needed than is left, and a disk
 -- failed more often than answers tell
@@ -31,6 +32,17 @@ IsSo v other = ⊥
 abbrev pub IsSoIf : GroupView → Option Answer → Type 0
 IsSoIf v None = Unit {0}
 IsSoIf v (Some told) = IsSo v told
+
+-- the cache was started in between: the call of this turn began in the epoch `was`
+abbrev pub IsRestart : GroupView → Turn → Answer → Type 0
+IsRestart v turn (answer.Restarted was now) =
+    (was < now) × (now ≤ v.standing.cache_epoch)
+    × IsFirstEpoch v.calls.entries (entry_of v.calls.entries turn.call) was
+IsRestart v turn other = ⊥
+
+-- what is told to the call of this turn is so
+abbrev pub IsCause : GroupView → Turn → Answer → Type 0
+IsCause v turn told = IsSo v told ⊎ IsRestart v turn told
 
 -- the call of this turn is in flight, and asked what may be answered so
 pub record MayBeTold (v : GroupView) (turn : Turn) (told : Answer) : Type 0 where

@@ -1,14 +1,16 @@
 //! The answers that tell why a start was not made.
+ghost use Rattle.std.specs.Option.{option_copied};
 ghost use Rattle.std.specs.Prelude.{◌≡◌};
-ghost use Rattle.tier_node.specs.Starting.{is_hard, is_hard_open, is_hard_raise, is_hard_store, is_unsaid, is_untold, lacks_memory, open_answer, raise_answer, start_answer, store_answer};
+ghost use Rattle.tier_node.specs.Starting.{is_brief, is_brief_in, is_hard, is_hard_open, is_hard_raise, is_hard_store, is_unsaid, is_untold, is_untold_to, lacks_memory, open_answer, raise_answer, start_answer, store_answer};
 
 use cache_pool::CacheFault;
 use obj_model::Pool;
 use pool_survey::SurveyFault;
 use store_face::StoreFault;
-use tier_chron::Answer;
+use tier_chron::{Answer, Asked};
 use tier_core::{OpenFault, RaiseFault};
 use tier_stop::StartFault;
+use tier_view::Entry;
 
 /// The answer that tells of a fault of a pool's store; none tells of want of memory.
 pub(crate) fn store_answer(pool: Pool, fault: StoreFault) -> Option<Answer>
@@ -102,7 +104,7 @@ pub(crate) fn is_untold(fault: &StartFault) -> bool
     }
 }
 
-// Whether not every call may be answered with this fault of a store.
+// Whether a call that ends with its first step is not answered so with a fault of a store.
 fn is_hard_store(fault: &StoreFault) -> bool
     ensures { result ≡ is_hard_store fault.now }
 {
@@ -133,9 +135,8 @@ fn is_hard_raise(fault: &RaiseFault) -> bool
     }
 }
 
-/// Whether not every call may be told why a start was not made: what it is answered goes by what it
-/// asked.
-pub(crate) fn is_hard(fault: &StartFault) -> bool
+// Whether a call that ends with its first step is not told so why a start was not made.
+fn is_hard(fault: &StartFault) -> bool
     ensures { result ≡ is_hard fault.now }
 {
     match fault {
@@ -143,4 +144,32 @@ pub(crate) fn is_hard(fault: &StartFault) -> bool
         StartFault::Base(fault) => is_hard_open(fault),
         StartFault::Raise(fault) => is_hard_raise(fault),
     }
+}
+
+// Whether a call that asked this ends with its first step.
+fn is_brief(asked: &Asked) -> bool
+    ensures { result ≡ is_brief asked.now }
+{
+    match asked {
+        Asked::Flush { begin_only, .. } => *begin_only,
+        Asked::Evict(_) => true,
+        _ => false,
+    }
+}
+
+/// The same of the call of an entry.
+pub(crate) fn is_brief_in(entry: Option<&Entry>) -> bool
+    ensures { result ≡ is_brief_in (option_copied entry.entry) }
+{
+    match entry {
+        Some(entry) => is_brief(&entry.asked),
+        None => false,
+    }
+}
+
+/// Whether a call is not told why a start was not made, by whether it ends with its first step.
+pub(crate) fn is_untold_to(brief: bool, fault: &StartFault) -> bool
+    ensures { result ≡ is_untold_to brief fault.now }
+{
+    is_untold(fault) || (is_hard(fault) && brief)
 }

@@ -1,16 +1,16 @@
 //! Those whom a Fence keeps are told that it failed, or that it was refused.
 ghost use Rattle.std.specs.Option.{option_copied};
-ghost use Rattle.std.specs.Prelude.{◌≡◌, ◌≤◌, true, length};
-ghost use Rattle.tier_chron.specs.Shapes.{is_reading_fault, is_start_fault};
+ghost use Rattle.std.specs.Prelude.{◌≡◌, ◌≤◌, ◌<◌, ◌+◌, true, length};
+ghost use Rattle.tier_chron.specs.Shapes.{is_start_fault};
 ghost use Rattle.tier_core.specs.Held.{entries_limit};
 ghost use Rattle.tier_core.specs.Turns.{HasTurn};
 ghost use Rattle.tier_node.specs.Keeping.{FailsKept, IsForAll, IsKeptWhom, IsOverIf, IsWhom, RefusesKept, RefusesWhom, TellsCall, TellsCallIf, TellsLine, TellsLineIf, base_answer, is_own_fence, is_own_sent, refusal_in, refusal_of, told_failed};
 ghost use Rattle.tier_node.specs.Runs.{IsRun};
-ghost use Rattle.tier_node.specs.Tells.{IsSo, IsSoIf};
+ghost use Rattle.tier_node.specs.Tells.{IsSo, IsSoIf, MayBeTold};
 ghost use Rattle.tier_node.specs.declared.keeping.Refusal.TheVariants as refusal;
 ghost use Rattle.tier_node.specs.declared.keeping.Whom.TheVariants as whom;
 
-use crate::causes::store_answer;
+use crate::causes::{is_brief_in, store_answer};
 use crate::starting::log_answer;
 use crate::telling::tell;
 use crate::{Fault, Outcome};
@@ -70,8 +70,7 @@ fn whom_kept<P: Store>(g: &Group<P>) -> Whom
 
 // Tells a call, which the Fence keeps no more.
 fn tell_call<P: Store>(g: &mut Group<P>, turn: Turn, answer: Answer) -> Outcome
-    requires turn { HasTurn g.old turn.call turn }
-    requires kind { is_reading_fault answer ≡ true }
+    requires may { MayBeTold g.old turn answer }
     requires so { length g.old.log.answers ≤ entries_limit → IsSo g.old answer }
     ensures tells { TellsCall turn answer g.old g.new result }
     ensures run { IsRun g.old g.new }
@@ -244,8 +243,30 @@ fn deny_line<P: Store>(g: &mut Group<P>, line: u32) -> Outcome
     }
 }
 
+// Tells a call that there was no room for the epoch, unless it ends with its first step.
+fn lack_call<P: Store>(g: &mut Group<P>, turn: Turn, used: u64, need: u64, limit: u64) -> Outcome
+    requires turn { HasTurn g.old turn.call turn }
+    requires over { limit < used + need }
+    ensures tells { RefusesWhom (whom.Call turn) (refusal.Room used need limit) g.old g.new result }
+    ensures run { IsRun g.old g.new }
+{
+    if is_brief_in(g.call(turn.call)) {
+        return Outcome::Nothing;
+    }
+    tell_call(
+        g,
+        turn,
+        Answer::NoSpace {
+            pool: Pool::Base,
+            used,
+            need,
+            limit,
+        },
+    )
+}
+
 /// Tells those whom the last Fence keeps that it was refused, once: a call in flight, or a line as
-/// a call of its own. Want of room is told to no call.
+/// a call of its own.
 pub(crate) fn refuse_kept<P: Store>(g: &mut Group<P>, refusal: Refusal) -> Outcome
     requires { IsOverIf refusal }
     ensures refuses { RefusesKept refusal g.old g.new result }
@@ -264,7 +285,9 @@ pub(crate) fn refuse_kept<P: Store>(g: &mut Group<P>, refusal: Refusal) -> Outco
                 limit,
             },
         ),
-        (Whom::Call(_), Refusal::Room { .. }) => Outcome::Nothing,
+        (Whom::Call(turn), Refusal::Room { used, need, limit }) => {
+            lack_call(g, turn, used, need, limit)
+        }
         (Whom::Nobody, _) => Outcome::Nothing,
     }
 }

@@ -4,11 +4,12 @@ ghost use Rattle.tier_chron.specs.Shapes.{is_start_fault};
 ghost use Rattle.tier_core.specs.Held.{entries_limit};
 ghost use Rattle.tier_core.specs.Turns.{HasTurn};
 ghost use Rattle.tier_node.specs.Runs.{IsRun};
-ghost use Rattle.tier_node.specs.Starting.{FailsCall, FailsLine, LogsIf, StartsBy, StartsCall, StartsFor, StartsLine, start_answer, told_started};
+ghost use Rattle.tier_node.specs.Starting.{FailsCall, FailsLine, LogsIf, StartsBy, StartsCall, StartsFor, StartsLine, is_brief_in, start_answer, told_started};
 ghost use Rattle.tier_node.specs.Tells.{IsSo, IsSoIf};
 ghost use Rattle.tier_view.specs.Answers.{KeepsQuietly};
+ghost use Rattle.tier_view.specs.Calls.{entry_of};
 
-use crate::causes::{is_hard, is_untold, start_answer};
+use crate::causes::{is_brief_in, is_untold, is_untold_to, start_answer};
 use crate::telling::{drop_lacking, tell};
 use crate::{Fault, Outcome};
 use store_face::Store;
@@ -38,14 +39,15 @@ fn start_alone<P: Store>(g: &mut Group<P>) -> Outcome
 }
 
 // Tells a call why a step was not made.
-fn fail_call<P: Store>(g: &mut Group<P>, turn: Turn, fault: StartFault) -> Outcome
+fn fail_call<P: Store>(g: &mut Group<P>, turn: Turn, brief: bool, fault: StartFault) -> Outcome
     requires turn { HasTurn g.old turn.call turn }
+    requires brief { brief ≡ is_brief_in (entry_of g.old.calls.entries turn.call) }
     requires so { length g.old.log.answers ≤ entries_limit → IsSoIf g.old (start_answer fault) }
-    ensures fails { FailsCall turn fault g.old g.new result }
+    ensures fails { FailsCall turn brief fault g.old g.new result }
     ensures step { KeepsQuietly g.old g.new }
 {
     g.rest();
-    if is_untold(&fault) || is_hard(&fault) {
+    if is_untold_to(brief, &fault) {
         return Outcome::Failed(Fault::Start(fault));
     }
     match start_answer(fault) {
@@ -86,14 +88,15 @@ fn fail_line<P: Store>(g: &mut Group<P>, line: u32, fault: StartFault) -> Outcom
 }
 
 // Makes the step of a start that is needed first, for a call in flight.
-fn start_call<P: Store>(g: &mut Group<P>, line: Option<u32>, turn: Turn) -> Outcome
-    requires { HasTurn g.old turn.call turn }
-    ensures steps { StartsCall line turn g.old g.new result }
+fn start_call<P: Store>(g: &mut Group<P>, line: Option<u32>, turn: Turn, brief: bool) -> Outcome
+    requires turn { HasTurn g.old turn.call turn }
+    requires brief { brief ≡ is_brief_in (entry_of g.old.calls.entries turn.call) }
+    ensures steps { StartsCall line turn brief g.old g.new result }
     ensures run { IsRun g.old g.new }
 {
     g.rest();
     match start_step(g, line, Some(turn.call)) {
-        Started::Failed(fault) => fail_call(g, turn, fault),
+        Started::Failed(fault) => fail_call(g, turn, brief, fault),
         Started::NoMemory => drop_lacking(g, turn.call),
         Started::Ready => Outcome::Ready,
         Started::Going => Outcome::Going {
@@ -138,7 +141,7 @@ pub(crate) fn start<P: Store>(g: &mut Group<P>, line: Option<u32>, call: Option<
 {
     match (line, call) {
         (_, Some(call)) => match g.turn_of(call) {
-            Some(turn) => start_call(g, line, turn),
+            Some(turn) => start_call(g, line, turn, is_brief_in(g.call(call))),
             None => Outcome::Nothing,
         },
         (Some(line), None) => start_line(g, line),

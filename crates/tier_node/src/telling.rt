@@ -1,7 +1,7 @@
 //! A call is told what it met, and is over.
 ghost use Rattle.std.specs.Prelude.{◌≡◌, ◌≤◌, length};
 ghost use Rattle.tier_core.specs.Held.{entries_limit};
-ghost use Rattle.tier_node.specs.Tells.{Drops, IsSo, IsSoIf, MayBeTold, Tells};
+ghost use Rattle.tier_node.specs.Tells.{Drops, IsCause, IsSo, MayBeTold, Tells};
 ghost use Rattle.tier_view.specs.Answers.{KeepsQuietly};
 
 use crate::Outcome;
@@ -18,10 +18,11 @@ pub(crate) fn drop_lacking<P: Store>(g: &mut Group<P>, call: u64) -> Outcome
     Outcome::NoMemory
 }
 
-// Ends a call with a fault that is so.
-fn tell_so<P: Store>(g: &mut Group<P>, turn: Turn, answer: Answer) -> Outcome
+/// Ends a call in flight with a fault that is so, at the present number of acts. Without memory for
+/// the answer it ends without one.
+pub(crate) fn tell_so<P: Store>(g: &mut Group<P>, turn: Turn, answer: Answer) -> Outcome
     requires may { MayBeTold g.old turn answer }
-    requires so { IsSo g.old answer }
+    requires so { IsCause g.old turn answer }
     ensures told { Tells turn answer g.old g.new result }
     ensures step { KeepsQuietly g.old g.new }
 {
@@ -42,8 +43,8 @@ fn tell_so<P: Store>(g: &mut Group<P>, turn: Turn, answer: Answer) -> Outcome
     }
 }
 
-/// Ends a call in flight with a fault, at the present number of acts. Without memory for the answer
-/// it ends without one; so it does in a history that has more answers than any history takes.
+/// The same of a fault that a store met. In a history that has more answers than any history takes
+/// the call ends without one.
 pub(crate) fn tell<P: Store>(g: &mut Group<P>, turn: Turn, answer: Answer) -> Outcome
     requires may { MayBeTold g.old turn answer }
     requires so { length g.old.log.answers ≤ entries_limit → IsSo g.old answer }

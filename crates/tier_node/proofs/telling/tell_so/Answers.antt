@@ -1,9 +1,8 @@
-use Rattle.std.proofs.Common.{◌≡◌, inl, inr, ℕ, List, length, refl, ap, subst, ◌∙◌}
+use Rattle.std.proofs.Common.{◌≡◌, inl, inr, List, length, refl, ap, subst, ◌∙◌}
 use Rattle.tier_chron.specs.Logs.{Log}
 use Rattle.tier_chron.specs.declared.entries.Act.{Act}
 use Rattle.tier_node.proofs.Faults.{ended_at, tells_at}
 use Rattle.tier_node.specs.Tells.{Drops}
-use Rattle.tier_node.specs.declared.outcome.Outcome.TheVariants.{NoMemory}
 use Rattle.tier_view.specs.Answers.{KeepsQuietly}
 use Rattle.tier_view.specs.Views.{GroupView}
 use Rattle.tier_node.proofs.telling.tell_so.Goals as goal
