@@ -29,8 +29,8 @@ pub enum Outcome {
     NotReady,
     /// What the event asked for failed, with this cause.
     Failed(Fault),
-    /// There was not the memory. No more was done than to read; a client's call that was entered is
-    /// over without an answer.
+    /// There was not the memory. No more was done than to read; a client's call that was entered, or
+    /// one for which a step of a start was to be made, is over without an answer.
     NoMemory,
     /// It was done, and there is no more to tell of it.
     Set,
