@@ -1,4 +1,9 @@
 pub mod Single
 pub mod Joined
 pub mod Delivered
+pub mod Faults
+pub mod StartFaults
+pub mod Turns
+pub mod Restarts
+pub mod KeptFences
 pub mod Listed

@@ -1,5 +1,5 @@
 -- One step of a group, or none, as a run.
-use Rattle.std.proofs.Common.{◌≡◌, [], ◌∷◌, None, refl, sym, subst}
+use Rattle.std.proofs.Common.{◌≡◌, [], ◌∷◌, Option, None, refl, sym, subst}
 use Rattle.tier_core.specs.Steps.{IsStep}
 use Rattle.tier_join.specs.Promises.{as_it_is}
 use Rattle.tier_join.specs.Steps.{with_doubt}
@@ -7,6 +7,7 @@ use Rattle.tier_node.specs.Runs.{IsRun}
 use Rattle.tier_runs.specs.Runs.{IsOneStep, MayMake}
 use Rattle.tier_view.proofs.Answering.{quiet_is_step}
 use Rattle.tier_view.specs.Answers.{KeepsQuietly}
+use Rattle.tier_view.specs.Grows.{Wanted}
 use Rattle.tier_view.specs.Laws.{Keeps}
 use Rattle.tier_view.specs.Views.{GroupView, joined}
 
@@ -37,5 +38,14 @@ plainly v w h = single v w (record {
   other = as_it_is;
   wanted = None;
   makes = MayMake.nothing refl;
+  keeps = h;
+})
+
+-- a step that may come in a doubt too, and enters a call
+pub entering : (wanted : Option Wanted) (v w : GroupView) → IsStep wanted v w → IsRun v w
+entering wanted v w h = single v w (record {
+  other = with_doubt (joined v).doubt;
+  wanted = wanted;
+  makes = MayMake.in_doubt refl;
   keeps = h;
 })

@@ -2,7 +2,7 @@
 use Rattle.std.specs.Option.{option_map}
 use Rattle.std.specs.Prelude.{ℕ, ◌==◌, Bool, true, false, if◌then◌else◌, Option, Some, None}
 use Rattle.tier_node.specs.declared.receiving.Topic.{Topic}
-use Rattle.tier_node.specs.declared.receiving.Topic.TheVariants.{Fence, Write, Other}
+use Rattle.tier_node.specs.declared.receiving.Topic.TheVariants.{Fence, Write, Room, Other}
 use Rattle.tier_traffic.specs.Messages.{replied_of, sent_of}
 use Rattle.tier_types.specs.declared.message.BaseMsg.{BaseMsg}
 use Rattle.tier_types.specs.declared.message.BaseReply.{BaseReply}
@@ -20,11 +20,11 @@ is_fence None = false
 is_fence (Some s) = asks_fence s.message
 
 -- What a reply is about, by the message that it answers, where that is not forgotten. A want of
--- room for a Fence has the operation's number 0. The two refusals of an epoch do not say what they
--- answer.
+-- room for a Fence has the operation's number 0; any other is about work. The two refusals of an
+-- epoch do not say what they answer.
 abbrev pub topic_of : Option Sent → BaseReply → Topic
 topic_of sent (BaseReply.Fenced e) = Fence
-topic_of sent (BaseReply.NoSpace e op used need limit) = if op == 0 then Fence else Other
+topic_of sent (BaseReply.NoSpace e op used need limit) = if op == 0 then Fence else Room
 topic_of sent (BaseReply.OldEpoch have got) = if is_fence sent then Fence else Other
 topic_of sent (BaseReply.NotFenced have got) = if is_fence sent then Fence else Other
 topic_of sent (BaseReply.Wrote e op acted) = Write

@@ -4,6 +4,7 @@ use Rattle.base_pool.specs.declared.fault.BaseFault.TheVariants as base
 use Rattle.store_face.specs.declared.fault.StoreFault.TheVariants as store
 use Rattle.tier_core.specs.Deliveries.{IsDelivered}
 use Rattle.tier_core.specs.Fences.{Hears}
+use Rattle.tier_core.specs.Lacks.{LacksWrite}
 use Rattle.tier_core.specs.Lands.{HearsWrite}
 use Rattle.tier_core.specs.declared.delivering.Delivered.{Delivered}
 use Rattle.tier_core.specs.declared.delivering.Delivered.TheVariants as delivered
@@ -11,32 +12,51 @@ use Rattle.tier_core.specs.declared.fencing.Heard.{Heard}
 use Rattle.tier_core.specs.declared.fencing.Heard.TheVariants as heard
 use Rattle.tier_core.specs.declared.landing.Landing.{Landing}
 use Rattle.tier_core.specs.declared.landing.Landing.TheVariants as landing
+use Rattle.tier_moves.specs.Begins.{ClientBegins}
+use Rattle.tier_moves.specs.Choices.{Refuses, Where}
+use Rattle.tier_moves.specs.declared.begun.Begun.{Begun}
+use Rattle.tier_moves.specs.declared.begun.Begun.TheVariants as begun
+use Rattle.tier_node.specs.Advancing.{Advances}
+use Rattle.tier_node.specs.Keeping.{FailsKept, RefusesKept, is_own_fence, refusal_in}
 use Rattle.tier_node.specs.Replies.{topic_in, call_kept}
+use Rattle.tier_node.specs.Starting.{IfSo, StartsFor}
 use Rattle.tier_node.specs.declared.event.Event.{Event}
 use Rattle.tier_node.specs.declared.event.Event.TheVariants as event
 use Rattle.tier_node.specs.declared.outcome.Fault.TheVariants as fault
 use Rattle.tier_node.specs.declared.outcome.Outcome.{Outcome}
-use Rattle.tier_node.specs.declared.outcome.Outcome.TheVariants.{Answered, Going, Sent, Carried, Ready, NotReady, Failed, NoMemory, Set, Nothing}
+use Rattle.tier_node.specs.declared.outcome.Outcome.TheVariants.{Answered, HistoryFull, Unlawful, Unbuilt, Going, Carried, Ready, NotReady, Failed, NoMemory, Set, Nothing}
 use Rattle.tier_node.specs.declared.receiving.Topic.{Topic}
 use Rattle.tier_node.specs.declared.receiving.Topic.TheVariants as topic
-use Rattle.tier_stop.specs.Needs.{start_needed}
-use Rattle.tier_stop.specs.Starts.{Starts}
-use Rattle.tier_stop.specs.declared.starting.Started.{Started}
-use Rattle.tier_stop.specs.declared.starting.Started.TheVariants as started
 use Rattle.tier_traffic.specs.Messages.{replied_of, sent_of}
+use Rattle.tier_types.specs.declared.flight.Ask.{Ask}
 use Rattle.tier_view.specs.Starts.{forgot_message, forgot_reply, with_base_stopped}
 use Rattle.tier_view.specs.Stops.{with_cache_stopped}
 use Rattle.tier_view.specs.Stores.{Stores}
 use Rattle.tier_view.specs.Views.{GroupView}
 use Rattle.tier_view.specs.Whole.{IsReady}
+use Rattle.tier_view.specs.declared.parts.Sent.{Sent}
 
--- exactly where this is so it is the first, and else the second
-abbrev pub Where : (P First Second : Type 0) → Type 0
-Where P First Second = P × First ⊎ (P → ⊥) × Second
+-- ---- a client's call begins
 
--- this is told, and nothing has changed
-abbrev pub Refuses : Outcome → (old new : GroupView) → Outcome → Type 0
-Refuses told old new outcome = (outcome ≡ told) × (new ≡ old)
+-- what is told of it
+abbrev pub told_begun : Begun → Outcome
+told_begun begun.Unlawful = Unlawful
+told_begun (begun.HistoryFull entries bytes) = HistoryFull entries bytes
+told_begun begun.NotReady = NotReady
+told_begun (begun.Answered call) = Answered call
+told_begun (begun.Unbuilt what) = Unbuilt what
+told_begun begun.NoMemory = NoMemory
+
+pub record BeginsCall (line : ℕ) (ask : Ask) (old new : GroupView) (outcome : Outcome) : Type 0
+  where
+    pub came : Begun
+    pub begins : ClientBegins line ask old new came
+    pub told : outcome ≡ told_begun came
+
+-- it began, or there was not the memory for what it asks
+abbrev pub TakesCall : (line : ℕ) → Ask → (old new : GroupView) → Outcome → Type 0
+TakesCall line ask old new outcome =
+    BeginsCall line ask old new outcome ⊎ Refuses NoMemory old new outcome
 
 -- ---- a message reaches the base
 
@@ -64,12 +84,28 @@ pub record HandsOver (number : ℕ) (old new : GroupView) (outcome : Outcome) : 
   pub comes : IsDelivered number old new came
   pub told : outcome ≡ told_delivered came
 
+-- The base was handed a Fence of the cache's epoch. Those whom it keeps are told that it failed.
+abbrev pub EndsFence : Delivered → (old new : GroupView) → Outcome → Type 0
+EndsFence (delivered.Failed f) old new outcome = FailsKept f old new outcome
+EndsFence came old new outcome = Refuses (told_delivered came) old new outcome
+
+pub record HandsFence (number : ℕ) (old new : GroupView) (outcome : Outcome) : Type 0 where
+  pub behind : GroupView
+  pub came : Delivered
+  pub comes : IsDelivered number old behind came
+  pub ends : EndsFence came behind new outcome
+
+abbrev pub HandsMessage : Sent → (number : ℕ) → (old new : GroupView) → Outcome → Type 0
+HandsMessage m number old new outcome =
+    IfSo (is_own_fence old.standing.cache_epoch m.message) (HandsFence number old new outcome)
+    (HandsOver number old new outcome)
+
 -- Nothing exactly where there is no message of the number; else NotReady exactly where the stores
 -- are not live.
 abbrev pub Delivers : (number : ℕ) → (old new : GroupView) → Outcome → Type 0
 Delivers number old new outcome = elim (sent_of old.traffic.messages number) [
   | None ↦ Refuses Nothing old new outcome
-  | Some m ↦ Where (AreLive old.stores) (HandsOver number old new outcome)
+  | Some m ↦ Where (AreLive old.stores) (HandsMessage m number old new outcome)
       (Refuses NotReady old new outcome)
 ]
 
@@ -82,10 +118,18 @@ TellsHeard heard.Other call new outcome = outcome ≡ Nothing
 TellsHeard h call new outcome =
     Where (IsReady new.stores new.standing) (outcome ≡ Ready) (outcome ≡ Going call)
 
-pub record HearsFence (number : ℕ) (old new : GroupView) (outcome : Outcome) : Type 0 where
+pub record HearsFenced (number : ℕ) (old new : GroupView) (outcome : Outcome) : Type 0 where
   pub came : Heard
   pub hears : Hears number old new came
   pub told : TellsHeard came (call_kept old.standing.kept) new outcome
+
+-- those whom the Fence keeps are told that it was refused
+abbrev pub HearsFence : (number : ℕ) → (old new : GroupView) → Outcome → Type 0
+HearsFence number old new outcome =
+    elim (refusal_in old.standing.cache_epoch old.traffic number) [
+      | None ↦ HearsFenced number old new outcome
+      | Some r ↦ RefusesKept r old new outcome
+    ]
 
 -- what is told of a reply to a write request
 abbrev pub told_landed : Landing → Outcome
@@ -103,6 +147,21 @@ abbrev pub TakesWrite : (number : ℕ) → (old new : GroupView) → Outcome →
 TakesWrite number old new outcome =
     HearsWrote number old new outcome ⊎ Refuses NoMemory old new outcome
 
+-- what is told of a want of room for a write request, by the call that was answered so
+abbrev pub told_lacked : Option ℕ → Outcome
+told_lacked None = Nothing
+told_lacked (Some call) = Answered call
+
+pub record HearsLack (number : ℕ) (old new : GroupView) (outcome : Outcome) : Type 0 where
+  pub came : Option ℕ
+  pub lacks : LacksWrite number old new came
+  pub told : outcome ≡ told_lacked came
+
+-- it was taken, or there was not the memory
+abbrev pub TakesLack : (number : ℕ) → (old new : GroupView) → Outcome → Type 0
+TakesLack number old new outcome =
+    HearsLack number old new outcome ⊎ Refuses NoMemory old new outcome
+
 -- Nothing where there is none. One that answers a Fence is heard; any other is NotReady exactly
 -- where the group is not ready.
 abbrev pub ReceivesOn : Option Topic → (number : ℕ) → (old new : GroupView) → Outcome → Type 0
@@ -110,6 +169,9 @@ ReceivesOn None number old new outcome = Refuses Nothing old new outcome
 ReceivesOn (Some topic.Fence) number old new outcome = HearsFence number old new outcome
 ReceivesOn (Some topic.Write) number old new outcome =
     Where (IsReady old.stores old.standing) (TakesWrite number old new outcome)
+    (Refuses NotReady old new outcome)
+ReceivesOn (Some topic.Room) number old new outcome =
+    Where (IsReady old.stores old.standing) (TakesLack number old new outcome)
     (Refuses NotReady old new outcome)
 ReceivesOn (Some topic.Other) number old new outcome =
     Where (IsReady old.stores old.standing) (Refuses Nothing old new outcome)
@@ -141,30 +203,15 @@ ForgetsReply number old new outcome = elim (replied_of old.traffic.replies numbe
 abbrev pub Stops : (GroupView → GroupView) → (old new : GroupView) → Outcome → Type 0
 Stops change old new outcome = Sets (change old) new outcome
 
--- ---- a start
-
--- what is told of a step of a start for this call
-abbrev pub told_started : (call : Option ℕ) → Started → Outcome
-told_started call started.Ready = Ready
-told_started call started.Going = Going call
-told_started call (started.Sent number) = Sent number
-told_started call (started.Failed f) = Failed (fault.Start f)
-told_started call started.NoMemory = NoMemory
-
--- the step that was needed first was made, or why it was not
-pub record StartsBy (line call : Option ℕ) (old new : GroupView) (outcome : Outcome) : Type 0
-  where
-    pub came : Started
-    pub starts : Starts (start_needed old) line call old new came
-    pub told : outcome ≡ told_started call came
-
 -- ---- all events
 
 abbrev pub Steps : Event → (old new : GroupView) → Outcome → Type 0
+Steps (event.Client line ask) old new outcome = TakesCall line ask old new outcome
 Steps (event.Deliver message) old new outcome = Delivers message old new outcome
 Steps (event.Receive reply) old new outcome = Receives reply old new outcome
 Steps (event.Forget message) old new outcome = Forgets message old new outcome
 Steps (event.ForgetReply reply) old new outcome = ForgetsReply reply old new outcome
 Steps event.StopCache old new outcome = Stops with_cache_stopped old new outcome
 Steps event.StopBase old new outcome = Stops with_base_stopped old new outcome
-Steps (event.Start line call) old new outcome = StartsBy line call old new outcome
+Steps (event.Advance call) old new outcome = Advances call old new outcome
+Steps (event.Start line call) old new outcome = StartsFor line call old new outcome

@@ -1,8 +1,9 @@
 //! A message reaches the base.
 ghost use Rattle.std.specs.Prelude.{◌≡◌, ◌↔◌, IsTrue};
 ghost use Rattle.tier_node.specs.Runs.{IsRun};
-ghost use Rattle.tier_node.specs.Steps.{AreLive, Delivers, told_delivered};
+ghost use Rattle.tier_node.specs.Steps.{AreLive, Delivers, HandsFence, HandsOver, told_delivered};
 
+use crate::keeping::{fail_kept, is_own_fence};
 use crate::{Fault, Outcome};
 use base_pool::BaseFault;
 use store_face::{Store, StoreFault};
@@ -31,16 +32,47 @@ fn told_delivered(delivered: Delivered) -> Outcome
     }
 }
 
-/// Hands a message to the base, where both stores are live.
+// Hands a Fence of the cache's epoch to the base. Those whom it keeps are told that it failed.
+fn deliver_fence<P: Store>(g: &mut Group<P>, message: u64) -> Outcome
+    requires { AreLive g.old.stores }
+    ensures steps { HandsFence message g.old g.new result }
+    ensures run { IsRun g.old g.new }
+{
+    g.rest();
+    match g.deliver(message) {
+        Delivered::Failed(fault) => fail_kept(g, fault),
+        Delivered::Carried(reply) => Outcome::Carried { reply },
+        Delivered::Void => Outcome::Failed(Fault::Void),
+        Delivered::NoMemory => Outcome::NoMemory,
+        Delivered::Nothing => Outcome::Nothing,
+    }
+}
+
+// Hands any other message to the base.
+fn hand_over<P: Store>(g: &mut Group<P>, message: u64) -> Outcome
+    requires { AreLive g.old.stores }
+    ensures steps { HandsOver message g.old g.new result }
+    ensures run { IsRun g.old g.new }
+{
+    told_delivered(g.deliver(message))
+}
+
+/// Hands a message to the base, where both stores are live. Of a Fence of the cache's epoch those
+/// whom it keeps are told that it failed.
 pub(crate) fn deliver<P: Store>(g: &mut Group<P>, message: u64) -> Outcome
     ensures steps { Delivers message g.old g.new result }
     ensures run { IsRun g.old g.new }
 {
-    if g.message(message).is_none() {
-        return Outcome::Nothing;
-    }
+    let fence = match g.message(message) {
+        Some(sent) => is_own_fence(g.epoch(), &sent.message),
+        None => return Outcome::Nothing,
+    };
     if !are_live(g) {
         return Outcome::NotReady;
     }
-    told_delivered(g.deliver(message))
+    if fence {
+        deliver_fence(g, message)
+    } else {
+        hand_over(g, message)
+    }
 }

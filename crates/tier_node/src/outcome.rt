@@ -1,5 +1,6 @@
 //! What is told of an event.
 use base_pool::BaseFault;
+use tier_moves::Unbuilt;
 use tier_stop::StartFault;
 
 /// What is told of an event.
@@ -7,6 +8,14 @@ use tier_stop::StartFault;
 pub enum Outcome {
     /// This call was answered, and is over.
     Answered { call: u64 },
+    /// The history has so many entries, which weigh so much, and takes no further call. Nothing
+    /// changed.
+    HistoryFull { entries: u64, bytes: u64 },
+    /// What a client asks is no client's: a write request that does not write, or whose client or
+    /// number is not within its limits, or a reading that writes. Nothing changed.
+    Unlawful,
+    /// A client's call needs what is not built yet. It is over without an answer.
+    Unbuilt(Unbuilt),
     /// One step more is needed, for this call or for none. The call goes on, or the group is to be
     /// started further.
     Going { call: Option<u64> },
@@ -20,7 +29,8 @@ pub enum Outcome {
     NotReady,
     /// What the event asked for failed, with this cause.
     Failed(Fault),
-    /// There was not the memory. No more was done than to read.
+    /// There was not the memory. No more was done than to read; a client's call that was entered, or
+    /// one for which a step of a start was to be made, is over without an answer.
     NoMemory,
     /// It was done, and there is no more to tell of it.
     Set,

@@ -3,9 +3,10 @@ ghost use Rattle.std.specs.Option.{option_copied, option_map};
 ghost use Rattle.std.specs.Prelude.{◌≡◌, None, IfOk, OnErr};
 ghost use Rattle.tier_node.specs.Replies.{topic_of, topic_in, call_kept, is_fence};
 ghost use Rattle.tier_node.specs.Runs.{IsRun};
-ghost use Rattle.tier_node.specs.Steps.{HearsFence, Receives, TakesWrite, TellsHeard, told_landed};
+ghost use Rattle.tier_node.specs.Steps.{HearsFence, HearsFenced, Receives, TakesLack, TakesWrite, TellsHeard, told_lacked, told_landed};
 
 use crate::Outcome;
+use crate::keeping::{refusal_in, refuse_kept};
 use store_face::Store;
 use tier_core::{Group, Heard, Landing};
 use tier_types::{BaseMsg, BaseReply};
@@ -18,6 +19,8 @@ pub(crate) enum Topic {
     Fence,
     /// It tells what became of a write request.
     Write,
+    /// It tells of want of room for work.
+    Room,
     /// It is about other work.
     Other,
 }
@@ -39,6 +42,7 @@ fn topic_of(sent: Option<&Sent>, reply: &BaseReply) -> Topic
     match reply {
         BaseReply::Fenced { .. } => Topic::Fence,
         BaseReply::NoSpace { opid: 0, .. } => Topic::Fence,
+        BaseReply::NoSpace { .. } => Topic::Room,
         BaseReply::OldEpoch { .. } | BaseReply::NotFenced { .. } if is_fence(sent) => Topic::Fence,
         BaseReply::Wrote { .. } => Topic::Write,
         _ => Topic::Other,
@@ -74,14 +78,27 @@ fn told_heard<P: Store>(g: &Group<P>, heard: Heard, call: Option<u64>) -> Outcom
     }
 }
 
-// Hears a reply that answers a Fence.
-fn hear_fence<P: Store>(g: &mut Group<P>, reply: u64) -> Outcome
-    ensures steps { HearsFence reply g.old g.new result }
+// Hears a reply that answers a Fence, and does not refuse it.
+fn hear_fenced<P: Store>(g: &mut Group<P>, reply: u64) -> Outcome
+    ensures steps { HearsFenced reply g.old g.new result }
     ensures run { IsRun g.old g.new }
 {
     let call = call_kept(g);
     let heard = g.hear_fenced(reply);
     told_heard(g, heard, call)
+}
+
+// Hears a reply that answers a Fence. Where it refuses a Fence of the cache's epoch, those whom the
+// last Fence keeps are told so.
+fn hear_fence<P: Store>(g: &mut Group<P>, reply: u64) -> Outcome
+    ensures steps { HearsFence reply g.old g.new result }
+    ensures run { IsRun g.old g.new }
+{
+    g.rest();
+    match refusal_in(g, reply) {
+        Some(refusal) => refuse_kept(g, refusal),
+        None => hear_fenced(g, reply),
+    }
 }
 
 // What is told of a reply to a write request.
@@ -107,6 +124,27 @@ fn take_write<P: Store>(g: &mut Group<P>, reply: u64) -> Outcome
     }
 }
 
+// What is told of a want of room for a write request, by the call that was answered so.
+fn told_lacked(call: Option<u64>) -> Outcome
+    ensures { result ≡ told_lacked call }
+{
+    match call {
+        None => Outcome::Nothing,
+        Some(call) => Outcome::Answered { call },
+    }
+}
+
+// Takes a reply that tells of want of room for work: a call is told so that drives a write request.
+fn take_lack<P: Store>(g: &mut Group<P>, reply: u64) -> Outcome
+    ensures steps { TakesLack reply g.old g.new result }
+    ensures run { IsRun g.old g.new }
+{
+    match g.lack_write(reply) {
+        Ok(call) => told_lacked(call),
+        Err(_) => Outcome::NoMemory,
+    }
+}
+
 /// Takes the reply of a number. One that answers a Fence is heard at any moment; any other is taken
 /// where the group is ready.
 pub(crate) fn receive<P: Store>(g: &mut Group<P>, reply: u64) -> Outcome
@@ -118,6 +156,7 @@ pub(crate) fn receive<P: Store>(g: &mut Group<P>, reply: u64) -> Outcome
         Some(Topic::Fence) => hear_fence(g, reply),
         Some(_) if !g.is_ready() => Outcome::NotReady,
         Some(Topic::Write) => take_write(g, reply),
+        Some(Topic::Room) => take_lack(g, reply),
         Some(Topic::Other) => Outcome::Nothing,
     }
 }

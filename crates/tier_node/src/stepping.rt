@@ -4,6 +4,8 @@ ghost use Rattle.tier_node.specs.Steps.{Steps, Stops};
 ghost use Rattle.tier_view.specs.Starts.{with_base_stopped};
 ghost use Rattle.tier_view.specs.Stops.{with_cache_stopped};
 
+use crate::advancing::advance;
+use crate::calling::begin;
 use crate::delivering::deliver;
 use crate::forgetting::{forget, forget_reply};
 use crate::receiving::receive;
@@ -36,12 +38,14 @@ pub fn step<P: Store>(g: &mut Group<P>, event: &Event) -> Outcome
     ensures run { IsRun g.old g.new }
 {
     match event {
+        Event::Client { line, ask } => begin(g, *line, ask),
         Event::Deliver { message } => deliver(g, *message),
         Event::Receive { reply } => receive(g, *reply),
         Event::Forget { message } => forget(g, *message),
         Event::ForgetReply { reply } => forget_reply(g, *reply),
         Event::StopCache => stop_cache(g),
         Event::StopBase => stop_base(g),
+        Event::Advance { call } => advance(g, *call),
         Event::Start { line, call } => start(g, *line, *call),
     }
 }

@@ -1,14 +1,6 @@
-use Rattle.std.proofs.Common.{Option, ℕ, subst}
-use Rattle.tier_node.proofs.Single.{doubting}
-use Rattle.tier_node.specs.Steps.{TellsHeard}
+use Rattle.tier_node.proofs.KeptFences.{refused_over}
 use Rattle.tier_node.proofs.receiving.hear_fence.Goals as goal
 
-pub returns-clause-steps : goal.returns-clause-steps
-returns-clause-steps g c = record {
-  came = c.hear_fenced-heard.result;
-  hears = c.hear_fenced-heard.ensures.heard;
-  told = subst (λ (call : Option ℕ). TellsHeard c.hear_fenced-heard.result call c.hear_fenced-heard.new.self c.told_heard.result) c.call_kept-call.ensures c.told_heard.ensures;
-}
-
-pub returns-clause-run : goal.returns-clause-run
-returns-clause-run g c = doubting c.args.g.now c.hear_fenced-heard.new.self c.hear_fenced-heard.ensures.step
+pub refuse_kept-requires : goal.refuse_kept-requires
+refuse_kept-requires g c =
+    refused_over c.args.g.now c.args.reply c.in-Some.refusal c.rest.ensures.whole c.in-Some.ensures

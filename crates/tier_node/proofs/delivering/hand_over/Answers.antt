@@ -1,5 +1,5 @@
 use Rattle.tier_node.proofs.Delivered.{delivered_run}
-use Rattle.tier_node.proofs.delivering.deliver.Goals as goal
+use Rattle.tier_node.proofs.delivering.hand_over.Goals as goal
 
 pub returns-clause-run : goal.returns-clause-run
 returns-clause-run g c =

@@ -1,0 +1,6 @@
+pub mod OneSteps
+pub mod NewCalls
+pub mod FaultsTold
+pub mod Untouched
+pub mod ServedCalls
+pub mod Away
