@@ -84,12 +84,15 @@ failed name bytes s old new (store.Worn limit) h sound live done = absurd done.1
 failed name bytes s old new store.NoMemory h sound live done = done
 
 -- a put that failed
-pub put_failed : (name key value bytes : List ℕ) (s : NameState) (old new : LogView) (fault : StoreFault) → key ≡ state_key name → value ≡ bytes
-    → SpellsState bytes s → Sound (store_of old) → old.live ≡ true → Committed (puts key value) (store_of old) (store_of new) (Err fault)
+pub put_failed : (name key value bytes : List ℕ) (changes : List Change) (s : NameState)
+    (old new : LogView) (fault : StoreFault) → changes ≡ puts key value → key ≡ state_key name
+    → value ≡ bytes → SpellsState bytes s → Sound (store_of old) → old.live ≡ true
+    → Committed changes (store_of old) (store_of new) (Err fault)
     → WasPut name s (store_of old) (store_of new) (Err (line_fault fault))
-put_failed name key value bytes s old new fault e f h sound live done =
+put_failed name key value bytes changes s old new fault is e f h sound live done =
     failed name bytes s old new fault h sound live
-    (subst (λ (cs : List Change). Committed cs (store_of old) (store_of new) (Err fault)) (ap₂ puts e f) done)
+    (subst (λ (cs : List Change). Committed cs (store_of old) (store_of new) (Err fault))
+    (is ∙ ap₂ puts e f) done)
 
 -- ---- what a put took of the room
 
@@ -101,22 +104,23 @@ done_uses name key value bytes s old new e f h done =
     (omega (arith, done.fits, same), omega (arith, done.used, same))
 
 -- one that failed
-pub failed_uses : (name key value bytes : List ℕ) (s : NameState) (old new : LogView)
-    (fault : StoreFault) → key ≡ state_key name → value ≡ bytes → SpellsState bytes s
-    → Committed (puts key value) (store_of old) (store_of new) (Err fault)
+pub failed_uses : (name key value bytes : List ℕ) (changes : List Change) (s : NameState)
+    (old new : LogView) (fault : StoreFault) → changes ≡ puts key value → key ≡ state_key name
+    → value ≡ bytes → SpellsState bytes s
+    → Committed changes (store_of old) (store_of new) (Err fault)
     → KeepsAll old new (Err fault) → PutUses name s old new (Err (line_fault fault))
-failed_uses name key value bytes s old new store.Disk e f h done kept = tt
-failed_uses name key value bytes s old new (store.BadImage at) e f h done kept = absurd done
-failed_uses name key value bytes s old new (store.NoSpace used more limit) e f h done kept =
-    let same : record_size (puts key value) ≡ record_size (change_of name s) =
-    ap record_size (ap₂ puts e (f ∙ h.spelled)) in
+failed_uses name key value bytes changes s old new store.Disk is e f h done kept = tt
+failed_uses name key value bytes changes s old new (store.BadImage at) is e f h done kept = absurd done
+failed_uses name key value bytes changes s old new (store.NoSpace used more limit) is e f h done kept =
+    let same : record_size changes ≡ record_size (change_of name s) =
+    ap record_size (is ∙ ap₂ puts e (f ∙ h.spelled)) in
     let numbers = done.0.1 in
-    let more_is : more ≡ record_size (puts key value) = ap (λ (l : Lack). l.need) numbers in (
+    let more_is : more ≡ record_size changes = ap (λ (l : Lack). l.need) numbers in (
       ap (λ (l : Lack). l.used) numbers,
       ap (λ (l : Lack). l.limit) numbers,
       omega (arith, done.0.0, more_is),
       done.1.used,
       more_is ∙ same,
     )
-failed_uses name key value bytes s old new (store.Worn limit) e f h done kept = absurd done.1
-failed_uses name key value bytes s old new store.NoMemory e f h done kept = kept
+failed_uses name key value bytes changes s old new (store.Worn limit) is e f h done kept = absurd done.1
+failed_uses name key value bytes changes s old new store.NoMemory is e f h done kept = kept

@@ -20,7 +20,7 @@ use crate::answers::{of_reading, replied};
 use crate::task::Task;
 use log_store::LogStore;
 use obj_model::{Bytes, Change, Name, NameState, NoMemory, Req, Vector};
-use obj_ops::{Acted, act, look};
+use obj_ops::{Answered, act_on, look};
 use rec_codec::{read_state, write_state};
 use std::alloc::Global;
 use store_face::{Store, StoreFault, one_change};
@@ -71,7 +71,7 @@ pub fn answer<D: Disk + Drop>(
     }
 }
 
-// Carries a write request out.
+// Carries a write request out, on the state of its name where it lies.
 #[tactic(auto, using(crate::proofs::Views::goes_further, crate::proofs::Going::log_stood_still))]
 fn request<D: Disk + Drop>(
     alloc: Global,
@@ -86,15 +86,15 @@ fn request<D: Disk + Drop>(
     ensures same { SameStore pool.old pool.new }
     ensures goes_on { GoesOn (store_of pool.old) (store_of pool.new) }
 {
-    let before = state_of(alloc, pool, &req.name)?;
-    match act(alloc, &before, req)? {
-        Acted::Fresh { state, reply } => {
+    let mut state = state_of(alloc, pool, &req.name)?;
+    match act_on(alloc, &mut state, req)? {
+        Answered::Fresh { reply } => {
             put_state(alloc, pool, &req.name, &state)?;
             Ok((replied(reply, false), true))
         }
-        Acted::Again { reply } => Ok((replied(reply, true), false)),
-        Acted::Stale { kept } => Ok((Answer::Stale { kept }, false)),
-        Acted::Worn { limit } => Ok((Answer::Worn { limit }, false)),
+        Answered::Again { reply } => Ok((replied(reply, true), false)),
+        Answered::Stale { kept } => Ok((Answer::Stale { kept }, false)),
+        Answered::Worn { limit } => Ok((Answer::Worn { limit }, false)),
     }
 }
 

@@ -1,9 +1,3 @@
-use Rattle.std.specs.Prelude.{List, [], ◌∷◌, Err}
-use Rattle.std.proofs.Common.{subst}
-use Rattle.obj_model.specs.declared.change.Change.{Change}
-use Rattle.obj_model.specs.declared.change.Change.TheVariants.{Put}
-use Rattle.log_store.specs.Views.{store_of}
-use Rattle.store_face.specs.Calls.{Committed}
 use Rattle.tier_tool.proofs.Bases.{put_lawful}
 use Rattle.tier_tool.proofs.Pools.{put_failed, failed_uses}
 use Rattle.tier_tool.proofs.base.put_state.Goals as goal
@@ -17,24 +11,15 @@ commit-requires-clause-lawful g c =
 
 pub returns-in-Err-clause-put : goal.returns-in-Err-clause-put
 returns-in-Err-clause-put g c =
-    let committed : Committed (Put c.in_ok-key.key c.from_vec-value.result ∷ [])
-    (store_of c.args.pool.now) (store_of c.commit.new.self) (Err c.in-Err.fault) =
-    subst (λ (cs : List Change). Committed cs (store_of c.args.pool.now)
-    (store_of c.commit.new.self) (Err c.in-Err.fault))
-    c.in_ok-one_change.ensures c.in-Err.ensures.committed in
     rw c.line_fault.ensures (put_failed c.args.name.now c.in_ok-key.key c.from_vec-value.result
-    c.in_ok-write_state.field-0.items c.args.state.now c.args.pool.now c.commit.new.self
-    c.in-Err.fault c.in_ok-key.ensures.key c.from_vec-value.ensures
-    c.in_ok-write_state.ensures.spelled c.requires.sound c.requires.live committed)
+    c.in_ok-write_state.field-0.items _ c.args.state.now c.args.pool.now c.commit.new.self
+    c.in-Err.fault c.in_ok-one_change.ensures c.in_ok-key.ensures.key c.from_vec-value.ensures
+    c.in_ok-write_state.ensures.spelled c.requires.sound c.requires.live
+    c.in-Err.ensures.committed)
 
 pub returns-in-Err-clause-uses : goal.returns-in-Err-clause-uses
 returns-in-Err-clause-uses g c =
-    let committed : Committed (Put c.in_ok-key.key c.from_vec-value.result ∷ [])
-    (store_of c.args.pool.now) (store_of c.commit.new.self) (Err c.in-Err.fault) =
-    subst (λ (cs : List Change). Committed cs (store_of c.args.pool.now)
-    (store_of c.commit.new.self) (Err c.in-Err.fault))
-    c.in_ok-one_change.ensures c.in-Err.ensures.committed in
     rw c.line_fault.ensures (failed_uses c.args.name.now c.in_ok-key.key c.from_vec-value.result
-    c.in_ok-write_state.field-0.items c.args.state.now c.args.pool.now c.commit.new.self
-    c.in-Err.fault c.in_ok-key.ensures.key c.from_vec-value.ensures
-    c.in_ok-write_state.ensures.spelled committed c.in-Err.ensures.refused)
+    c.in_ok-write_state.field-0.items _ c.args.state.now c.args.pool.now c.commit.new.self
+    c.in-Err.fault c.in_ok-one_change.ensures c.in_ok-key.ensures.key c.from_vec-value.ensures
+    c.in_ok-write_state.ensures.spelled c.in-Err.ensures.committed c.in-Err.ensures.refused)
