@@ -34,3 +34,4 @@ pub mod OpenedHere
 pub mod ReadLeads
 pub mod ServedAsk
 pub mod Lacked
+pub mod Taken

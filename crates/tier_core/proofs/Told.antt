@@ -74,7 +74,7 @@ module _ (t : Traffic) (epoch number : ℕ) where
   pub none_wrote : wrote_in epoch (replied_of t.replies number) ≡ None → IsUntold t epoch number
   none_wrote none told is = let no : None ≡ Some told.wrote = sym none ∙ is.wrote in absurd (cc)
 
-  one_wrote : (a b : Wrote) → Some a ≡ Some b → a ≡ b
+  pub one_wrote : (a b : Wrote) → Some a ≡ Some b → a ≡ b
   one_wrote a b e = cc
 
   module _ (wrote : Wrote) (at : wrote_in epoch (replied_of t.replies number) ≡ Some wrote) where

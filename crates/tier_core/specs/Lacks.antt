@@ -97,6 +97,11 @@ pub record IsLacked (log : Log) (entries : List Entry) (t : Traffic) (epoch numb
   pub is : logged ≡ lacked_here turn (length log.acts) (way_of (owner_turn driver owner entries))
       lacked
 
+-- the reply of this number tells of one
+abbrev pub IsLackedOf : Log → List Entry → Traffic → (epoch number : ℕ) → Type 0
+IsLackedOf log entries t epoch number =
+    (logged : Logged) × IsLacked log entries t epoch number logged
+
 abbrev pub TellsLacked : Log → List Entry → Traffic → (epoch number : ℕ) → Option Logged → Type 0
 TellsLacked log entries t epoch number (Some logged) = IsLacked log entries t epoch number logged
 TellsLacked log entries t epoch number None =

@@ -72,6 +72,10 @@ pub record IsDriven (flights : Flights) (wrote : Wrote) (told : Told) : Type 0 w
 abbrev pub IsUndriven : Flights → Wrote → Type 0
 IsUndriven flights wrote = (told : Told) → IsDriven flights wrote told → ⊥
 
+-- it tells of one
+abbrev pub IsToldOf : Traffic → (epoch number : ℕ) → Type 0
+IsToldOf t epoch number = (told : Told) × IsTold t epoch number told
+
 -- it tells of none
 abbrev pub IsUntold : Traffic → (epoch number : ℕ) → Type 0
 IsUntold t epoch number = (told : Told) → IsTold t epoch number told → ⊥

@@ -55,8 +55,8 @@ fn lacked_in(epoch: u64, reply: Option<&Replied>) -> Option<Lacked>
     }
 }
 
-// The calls that drive and own the write request of this operation, which was found by it.
-fn driven_by(flights: &Flights, opid: u64, found: Option<&Name>) -> Option<(u64, u64)>
+/// The calls that drive and own the write request of this operation, which was found by it.
+pub(crate) fn driven_by(flights: &Flights, opid: u64, found: Option<&Name>) -> Option<(u64, u64)>
     requires { IsNameBy has_opid flights.now opid (option_copied found) }
     ensures { TellsDriven flights.now opid result }
 {

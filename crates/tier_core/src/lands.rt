@@ -71,8 +71,8 @@ fn wrote_by(epoch: u64, reply: &BaseReply) -> Option<Wrote>
     }
 }
 
-// The same of the reply of a number, if there is one.
-fn wrote_in(epoch: u64, reply: Option<&Replied>) -> Option<Wrote>
+/// The same of the reply of a number, if there is one.
+pub(crate) fn wrote_in(epoch: u64, reply: Option<&Replied>) -> Option<Wrote>
     ensures { result ≡ wrote_in epoch (option_copied reply.entry) }
 {
     match reply {

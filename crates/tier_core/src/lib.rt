@@ -37,6 +37,7 @@ mod reading_base;
 mod serving;
 mod stakes;
 mod stopping;
+mod taking;
 mod telling;
 mod turns;
 mod working;

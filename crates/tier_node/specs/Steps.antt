@@ -4,8 +4,8 @@ use Rattle.base_pool.specs.declared.fault.BaseFault.TheVariants as base
 use Rattle.store_face.specs.declared.fault.StoreFault.TheVariants as store
 use Rattle.tier_core.specs.Deliveries.{IsDelivered}
 use Rattle.tier_core.specs.Fences.{Hears}
-use Rattle.tier_core.specs.Lacks.{LacksWrite}
-use Rattle.tier_core.specs.Lands.{HearsWrite}
+use Rattle.tier_core.specs.Lacks.{IsLackedOf, LacksWrite}
+use Rattle.tier_core.specs.Lands.{HearsWrite, IsToldOf}
 use Rattle.tier_core.specs.declared.delivering.Delivered.{Delivered}
 use Rattle.tier_core.specs.declared.delivering.Delivered.TheVariants as delivered
 use Rattle.tier_core.specs.declared.fencing.Heard.{Heard}
@@ -162,20 +162,32 @@ abbrev pub TakesLack : (number : ℕ) → (old new : GroupView) → Outcome → 
 TakesLack number old new outcome =
     HearsLack number old new outcome ⊎ Refuses NoMemory old new outcome
 
--- Nothing where there is none. One that answers a Fence is heard; any other is NotReady exactly
--- where the group is not ready.
+-- Nothing exactly where it tells of no write request under way that a call drives; else NotReady
+-- exactly where the group is not ready.
+abbrev pub ReceivesWrite : (number : ℕ) → (old new : GroupView) → Outcome → Type 0
+ReceivesWrite number old new outcome =
+    Where (IsToldOf old.traffic old.standing.cache_epoch number)
+    (Where (IsReady old.stores old.standing) (TakesWrite number old new outcome)
+    (Refuses NotReady old new outcome))
+    (Refuses Nothing old new outcome)
+
+-- the same of want of room for one that a client's call drives
+abbrev pub ReceivesLack : (number : ℕ) → (old new : GroupView) → Outcome → Type 0
+ReceivesLack number old new outcome =
+    Where
+    (IsLackedOf old.log old.calls.entries old.traffic old.standing.cache_epoch number)
+    (Where (IsReady old.stores old.standing) (TakesLack number old new outcome)
+    (Refuses NotReady old new outcome))
+    (Refuses Nothing old new outcome)
+
+-- Nothing where there is none. One that answers a Fence is heard; any other is taken where it tells
+-- of work that waits for it.
 abbrev pub ReceivesOn : Option Topic → (number : ℕ) → (old new : GroupView) → Outcome → Type 0
 ReceivesOn None number old new outcome = Refuses Nothing old new outcome
 ReceivesOn (Some topic.Fence) number old new outcome = HearsFence number old new outcome
-ReceivesOn (Some topic.Write) number old new outcome =
-    Where (IsReady old.stores old.standing) (TakesWrite number old new outcome)
-    (Refuses NotReady old new outcome)
-ReceivesOn (Some topic.Room) number old new outcome =
-    Where (IsReady old.stores old.standing) (TakesLack number old new outcome)
-    (Refuses NotReady old new outcome)
-ReceivesOn (Some topic.Other) number old new outcome =
-    Where (IsReady old.stores old.standing) (Refuses Nothing old new outcome)
-    (Refuses NotReady old new outcome)
+ReceivesOn (Some topic.Write) number old new outcome = ReceivesWrite number old new outcome
+ReceivesOn (Some topic.Room) number old new outcome = ReceivesLack number old new outcome
+ReceivesOn (Some topic.Other) number old new outcome = Refuses Nothing old new outcome
 
 abbrev pub Receives : (number : ℕ) → (old new : GroupView) → Outcome → Type 0
 Receives number old new outcome =

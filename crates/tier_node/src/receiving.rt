@@ -3,7 +3,7 @@ ghost use Rattle.std.specs.Option.{option_copied, option_map};
 ghost use Rattle.std.specs.Prelude.{◌≡◌, None, IfOk, OnErr};
 ghost use Rattle.tier_node.specs.Replies.{topic_of, topic_in, call_kept, is_fence};
 ghost use Rattle.tier_node.specs.Runs.{IsRun};
-ghost use Rattle.tier_node.specs.Steps.{HearsFence, HearsFenced, Receives, TakesLack, TakesWrite, TellsHeard, told_lacked, told_landed};
+ghost use Rattle.tier_node.specs.Steps.{HearsFence, HearsFenced, Receives, ReceivesLack, ReceivesWrite, TakesLack, TakesWrite, TellsHeard, told_lacked, told_landed};
 
 use crate::Outcome;
 use crate::keeping::{refusal_in, refuse_kept};
@@ -145,18 +145,48 @@ fn take_lack<P: Store>(g: &mut Group<P>, reply: u64) -> Outcome
     }
 }
 
-/// Takes the reply of a number. One that answers a Fence is heard at any moment; any other is taken
-/// where the group is ready.
+// Takes a reply that tells what became of a write request, if one under way waits for it that a call
+// drives.
+fn receive_write<P: Store>(g: &mut Group<P>, reply: u64) -> Outcome
+    ensures steps { ReceivesWrite reply g.old g.new result }
+    ensures run { IsRun g.old g.new }
+{
+    if !g.tells_landing(reply) {
+        return Outcome::Nothing;
+    }
+    if g.is_ready() {
+        take_write(g, reply)
+    } else {
+        Outcome::NotReady
+    }
+}
+
+// Takes a reply that tells of want of room for work, if a write request under way waits for it that
+// a client's call drives.
+fn receive_lack<P: Store>(g: &mut Group<P>, reply: u64) -> Outcome
+    ensures steps { ReceivesLack reply g.old g.new result }
+    ensures run { IsRun g.old g.new }
+{
+    if !g.tells_lack(reply) {
+        return Outcome::Nothing;
+    }
+    if g.is_ready() {
+        take_lack(g, reply)
+    } else {
+        Outcome::NotReady
+    }
+}
+
+/// Takes the reply of a number. One that answers a Fence is heard at any moment; one to work that
+/// waits for it is taken where the group is ready.
 pub(crate) fn receive<P: Store>(g: &mut Group<P>, reply: u64) -> Outcome
     ensures steps { Receives reply g.old g.new result }
     ensures run { IsRun g.old g.new }
 {
     match topic_in(g, reply) {
-        None => Outcome::Nothing,
         Some(Topic::Fence) => hear_fence(g, reply),
-        Some(_) if !g.is_ready() => Outcome::NotReady,
-        Some(Topic::Write) => take_write(g, reply),
-        Some(Topic::Room) => take_lack(g, reply),
-        Some(Topic::Other) => Outcome::Nothing,
+        Some(Topic::Write) => receive_write(g, reply),
+        Some(Topic::Room) => receive_lack(g, reply),
+        Some(Topic::Other) | None => Outcome::Nothing,
     }
 }
