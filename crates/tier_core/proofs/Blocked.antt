@@ -92,7 +92,7 @@ not_owned call (s ∷ ss) h o on =
     not_by call s.message s.owner (owned_in ss) both.0 (not_owned call ss both.1) o on
 
 -- a call that owns nothing may be answered for good
-owning_now : (v : GroupView) (call line : ℕ) (r : Req) → v.stores.pending ≡ None → HasAsked v call line r
+pub owning_now : (v : GroupView) (call line : ℕ) (r : Req) → v.stores.pending ≡ None → HasAsked v call line r
     → ((driver : Option ℕ) (op : ℕ) (q : Req) → fin.get v.traffic.flights r.name ≡ Some (Flight.Write driver call op q) → ⊥)
     → list_any (is_owned call) v.traffic.messages ≡ false → MayCloseNow v call
 owning_now v call line r none asked idle silent = record {

@@ -20,7 +20,8 @@ use Rattle.tier_core.specs.Serves.{asked_of}
 use Rattle.tier_core.specs.declared.turns.Turn.{Turn}
 use Rattle.tier_core.specs.Ends.{IsEnded}
 use Rattle.tier_moves.specs.declared.begun.Begun.TheVariants.{Answered}
-use Rattle.tier_moves.specs.Begins.{Fails, IsTrueFault, IsWayHere, MayEndBy, MayFail, failed_here, told_of}
+use Rattle.tier_moves.specs.Begins.{Fails, IsTrueFault, IsWayHere, MayEndBy, MayFail, told_of}
+use Rattle.tier_moves.specs.Endings.{failed_here}
 use Rattle.tier_core.specs.Turns.{IsTurn}
 use Rattle.tier_outside.specs.Causes.{Rose}
 use Rattle.tier_types.specs.declared.flight.Ask.{Ask}

@@ -4,3 +4,5 @@ pub mod FaultsTold
 pub mod Untouched
 pub mod ServedCalls
 pub mod Away
+pub mod FullTold
+pub mod FullModes

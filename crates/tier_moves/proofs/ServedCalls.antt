@@ -22,6 +22,7 @@ use Rattle.tier_moves.proofs.Untouched.{Leaves, absent_is, answered_epoch, leave
 use Rattle.tier_moves.specs.Asks.{writes}
 use Rattle.tier_moves.specs.Begins.{IsEnteredNow, IsStepOf, MayEndBy, told_of, told_unread}
 use Rattle.tier_moves.specs.Stands.{stand_of}
+use Rattle.tier_moves.specs.Ways.{MayGo}
 use Rattle.tier_moves.specs.declared.standing.Stand.TheVariants.{Clear}
 use Rattle.tier_types.specs.Flights.{lets_write, name_asked}
 use Rattle.tier_types.specs.declared.flight.Flight.{Flight}
@@ -100,6 +101,24 @@ module _ (turn : Turn) (ask : Ask) (v w : GroupView) (whole : IsWhole v)
   absent_leaves s =
       leaves_twice v s.between w (read_leaves served.Absent s)
       (leaves_itself s.between w (absent_is turn ask s.between w s.found s.served))
+
+  -- the call may go the way of its mode
+  pub absent_may_go : stand_of (fin.get v.traffic.flights (name_asked ask)) (writes ask) ≡ Clear
+      → Serves turn ask v w served.Absent → MayGo w turn ask
+  absent_may_go clear s =
+      let same = absent_is turn ask s.between w s.found s.served ∙ s.read.is in
+      subst (λ (x : GroupView). MayGo x turn ask) (sym same)
+      (record {
+        turn_is = record {
+          entry = h.turn_is.entry;
+          is = h.turn_is.is;
+          turn_is = h.turn_is.turn_is;
+          asked_is = h.turn_is.asked_is;
+        };
+        settled = refl;
+        fresh = h.fresh.fresh;
+        clear = clear;
+      })
 
   pub uncommitted_leaves : (fault : StoreFault) → Serves turn ask v w (served.Uncommitted fault)
       → Leaves v w

@@ -13,9 +13,7 @@ use Rattle.store_face.specs.declared.fault.StoreFault.TheVariants as store
 use Rattle.tier_chron.specs.Weights.{bytes_of, cut, entries_of}
 use Rattle.tier_chron.specs.declared.answer.Answer.{Answer}
 use Rattle.tier_chron.specs.declared.answer.Answer.TheVariants as answer
-use Rattle.tier_chron.specs.declared.entries.Logged.{Logged}
 use Rattle.tier_core.specs.Blocks.{blocked_here}
-use Rattle.tier_core.specs.Ends.{IsEnded}
 use Rattle.tier_core.specs.Held.{IsFull, IsWorn, entries_limit}
 use Rattle.tier_core.specs.Keeps.{MayBeAsked}
 use Rattle.tier_core.specs.Serves.{IsBare, Serves, asked_of}
@@ -27,7 +25,9 @@ use Rattle.tier_flight.specs.Busy.{busy_at}
 use Rattle.tier_flight.specs.declared.busy.Busy.{Busy}
 use Rattle.tier_moves.specs.Asks.{want_of, writes}
 use Rattle.tier_moves.specs.Choices.{Refuses, Where}
+use Rattle.tier_moves.specs.Endings.{Drops, Ends, failed_here}
 use Rattle.tier_moves.specs.Stands.{IsFreshOn, stand_of}
+use Rattle.tier_moves.specs.Ways.{Goes}
 use Rattle.tier_moves.specs.declared.begun.Begun.{Begun}
 use Rattle.tier_moves.specs.declared.begun.Begun.TheVariants.{Unlawful, HistoryFull, NotReady, Answered, Unbuilt, NoMemory}
 use Rattle.tier_moves.specs.declared.begun.Unbuilt.TheVariants as unbuilt
@@ -67,30 +67,7 @@ pub record IsStepOf (v new : GroupView) : Type 0 where
   pub keeps : Keeps other None v new
   pub epoch : SameEpoch v new
 
--- ---- how it ends
-
--- this is told, and the call is over without an answer
-pub record Drops (turn : Turn) (told : Begun) (v new : GroupView) (outcome : Begun) : Type 0 where
-  pub told_is : outcome ≡ told
-  pub ended : IsEnded turn.call None v new
-
--- the call was answered, and is over
-pub record Ends (turn : Turn) (logged : Logged) (v new : GroupView) (outcome : Begun) : Type 0
-  where
-    pub told_is : outcome ≡ Answered turn.call
-    pub ended : IsEnded turn.call (Some logged) v new
-
--- a fault is answered at the present number of acts
-abbrev pub failed_here : Turn → (acts : ℕ) → (way : Option Path) → Answer → Logged
-failed_here turn acts way told = record {
-  call = turn.call;
-  line = turn.line;
-  begin = turn.begin;
-  place = acts;
-  end = acts;
-  path = way;
-  answer = told;
-}
+-- ---- how it ends by a fault
 
 -- what a fault tells is so
 abbrev pub IsTrueFault : GroupView → Answer → Type 0
@@ -147,15 +124,15 @@ abbrev pub told_unread : CacheFault → Option Answer
 told_unread (Store fault) = told_of fault
 told_unread (BadRecord name) = Some (answer.BadRecord Cache name)
 
--- What came of the record decides: the call was answered; there is none; it was not read, which
--- comes before a way is chosen; or the act was not committed.
-abbrev pub EndsServed : Turn → Served → (v new : GroupView) → Begun → Type 0
-EndsServed turn served.Answered v new outcome = (outcome ≡ Answered turn.call) × (new ≡ v)
-EndsServed turn served.Absent v new outcome =
-    Drops turn (Unbuilt unbuilt.Route) v new outcome
-EndsServed turn (served.Unread fault) v new outcome =
+-- What came of the record decides: the call was answered; there is none, so it goes the way of its
+-- mode; it was not read, which comes before a way is chosen; or the act was not committed.
+abbrev pub EndsServed : Turn → Ask → Served → (v new : GroupView) → Begun → Type 0
+EndsServed turn ask served.Answered v new outcome =
+    (outcome ≡ Answered turn.call) × (new ≡ v)
+EndsServed turn ask served.Absent v new outcome = Goes turn ask v new outcome
+EndsServed turn ask (served.Unread fault) v new outcome =
     EndsBy turn None (told_unread fault) v new outcome
-EndsServed turn (served.Uncommitted fault) v new outcome =
+EndsServed turn ask (served.Uncommitted fault) v new outcome =
     EndsBy turn (Some Hit) (told_of fault) v new outcome
 
 -- the call was served from the record of its name, and ended by what came of it
@@ -165,7 +142,7 @@ pub record ServesCall (turn : Turn) (ask : Ask) (v new : GroupView) (outcome : B
     pub came : Served
     pub serves : Serves turn ask v behind came
     pub bare : IsBare behind (name_asked ask) came
-    pub ends : EndsServed turn came behind new outcome
+    pub ends : EndsServed turn ask came behind new outcome
 
 -- ---- it is turned away
 

@@ -26,6 +26,10 @@ pub enum Unbuilt {
     Adoption,
     /// The call writes, and reads of the name are with the base.
     Reads,
-    /// The cache has no record of the name, so the base is asked.
-    Route,
+    /// The cache has no record of the name, which is to be promoted.
+    Promotion,
+    /// The cache has no record of the name, and the call is to be served by the base.
+    Proxying,
+    /// The cache has no record of the name, and hit sets are to decide whether it is promoted.
+    Recency,
 }

@@ -1,6 +1,7 @@
 //! A call ends in its first step, without an answer or with a fault.
 ghost use Rattle.std.specs.Prelude.{◌≡◌, length};
-ghost use Rattle.tier_moves.specs.Begins.{Drops, EndsBy, Fails, MayEndBy, MayFail, failed_here};
+ghost use Rattle.tier_moves.specs.Begins.{EndsBy, Fails, MayEndBy, MayFail};
+ghost use Rattle.tier_moves.specs.Endings.{Drops, failed_here};
 ghost use Rattle.tier_view.specs.Answers.{KeepsQuietly};
 
 use crate::Begun;
@@ -16,8 +17,8 @@ pub(crate) fn acts_of<P: Store>(g: &Group<P>) -> u64
     g.history().acts().len() as u64
 }
 
-// The answer of a fault, where there are so many acts.
-fn failed_here(turn: Turn, acts: u64, way: Option<Path>, answer: Answer) -> Logged
+/// An answer that tells of no act, where there are so many acts.
+pub(crate) fn failed_here(turn: Turn, acts: u64, way: Option<Path>, answer: Answer) -> Logged
     ensures { result ≡ failed_here turn acts way answer }
 {
     Logged {

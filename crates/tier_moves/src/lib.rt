@@ -9,10 +9,13 @@ mod asking;
 mod beginning;
 mod begun;
 mod ending;
+mod laws;
 mod serving;
 mod standing;
 mod turning;
+mod ways;
 
 pub use asking::{copy_ask, is_lawful};
 pub use beginning::client_begin;
 pub use begun::{Begun, Unbuilt};
+pub use laws::followed_modes_tell;

@@ -7,8 +7,9 @@ ghost use Rattle.tier_moves.specs.Stands.{stand_of};
 ghost use Rattle.tier_moves.specs.declared.standing.Stand.TheVariants.{Clear};
 ghost use Rattle.tier_types.specs.Flights.{name_asked};
 
-use crate::ending::{drop_as, end_by};
-use crate::{Begun, Unbuilt};
+use crate::Begun;
+use crate::ending::end_by;
+use crate::ways::go;
 use cache_pool::CacheFault;
 use obj_model::{Path, Pool};
 use store_face::{Store, StoreFault};
@@ -51,8 +52,8 @@ fn told_unread(fault: CacheFault) -> Option<Answer>
 }
 
 /// Serves a client's call, which was entered just now, from the record of its name, and ends it:
-/// with an answer, with the fault that it met, or, where there is no record or no memory, without
-/// one.
+/// with an answer, with the fault that it met, or for want of memory without one. Where there is no
+/// record it goes the way of its mode.
 pub(crate) fn serve<P: Store>(g: &mut Group<P>, turn: Turn, ask: &Ask) -> Begun
     requires entered { IsEnteredNow g.old turn ask.now }
     requires clear { stand_of (fin.get g.old.traffic.flights (name_asked ask.now)) (writes ask.now)
@@ -63,7 +64,7 @@ pub(crate) fn serve<P: Store>(g: &mut Group<P>, turn: Turn, ask: &Ask) -> Begun
     g.rest();
     match g.serve_here(turn, ask) {
         Served::Answered => Begun::Answered { call: turn.call },
-        Served::Absent => drop_as(g, turn, Begun::Unbuilt(Unbuilt::Route)),
+        Served::Absent => go(g, turn, ask),
         Served::Unread(fault) => end_by(g, turn, None, told_unread(fault)),
         Served::Uncommitted(fault) => end_by(g, turn, Some(Path::Hit), told_of(fault)),
     }

@@ -1,6 +1,6 @@
 use Rattle.std.proofs.Common.{inr, subst}
 use Rattle.tier_moves.proofs.FaultsTold.{fault_at, fault_ends}
-use Rattle.tier_moves.specs.Begins.{Drops}
+use Rattle.tier_moves.specs.Endings.{Drops}
 use Rattle.tier_moves.specs.declared.begun.Begun.TheVariants.{NoMemory}
 use Rattle.tier_view.specs.Answers.{KeepsQuietly}
 use Rattle.tier_view.specs.Views.{GroupView}

@@ -2,7 +2,7 @@ use Rattle.std.proofs.Common.{Option, Some, None, refl, subst, sym}
 use Rattle.obj_model.specs.declared.tier.Path.TheVariants.{Hit}
 use Rattle.tier_chron.specs.declared.answer.Answer.{Answer}
 use Rattle.tier_core.specs.declared.serving.Served.TheVariants.{Answered, Absent, Unread, Uncommitted}
-use Rattle.tier_moves.proofs.ServedCalls.{absent_leaves, answered_step, may_be_served, silent_ends, uncommitted_ends, uncommitted_leaves, unread_ends, unread_leaves}
+use Rattle.tier_moves.proofs.ServedCalls.{absent_leaves, absent_may_go, answered_step, may_be_served, silent_ends, uncommitted_ends, uncommitted_leaves, unread_ends, unread_leaves}
 use Rattle.tier_moves.specs.Begins.{EndsBy, MayEndBy}
 use Rattle.tier_moves.proofs.serving.serve.Goals as goal
 
@@ -15,6 +15,20 @@ returns-in-Answered-clause-step g c =
     answered_step c.args.turn c.args.ask.now c.args.g.now c.serve_here.new.self
     c.rest.ensures.whole c.requires.entered Answered c.in-Answered.ensures.serves refl
 
+pub go-requires : goal.go-requires
+go-requires g c =
+    absent_may_go c.args.turn c.args.ask.now c.args.g.now c.serve_here.new.self
+    c.rest.ensures.whole c.requires.entered c.requires.clear c.in-Absent.ensures.serves
+
+pub returns-in-Absent-clause-served : goal.returns-in-Absent-clause-served
+returns-in-Absent-clause-served g c = record {
+  behind = c.serve_here.new.self;
+  came = Absent;
+  serves = c.in-Absent.ensures.serves;
+  bare = c.in-Absent.ensures.bare;
+  ends = c.go.ensures.goes;
+}
+
 pub returns-in-Absent-clause-step : goal.returns-in-Absent-clause-step
 returns-in-Absent-clause-step g c =
     let v = c.args.g.now in
@@ -22,7 +36,7 @@ returns-in-Absent-clause-step g c =
     let s = c.in-Absent.ensures.serves in
     silent_ends c.args.turn c.args.ask.now v w c.rest.ensures.whole c.requires.entered Absent s
     (absent_leaves c.args.turn c.args.ask.now v w c.rest.ensures.whole c.requires.entered s)
-    c.drop_as.new.g c.drop_as.ensures.step
+    c.go.new.g c.go.ensures.step
 
 pub end_by-requires : goal.end_by-requires
 end_by-requires g c =

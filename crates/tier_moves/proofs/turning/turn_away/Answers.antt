@@ -7,7 +7,8 @@ use Rattle.tier_moves.specs.Asks.{want_of}
 use Rattle.tier_types.specs.Flights.{name_asked}
 use Rattle.tier_moves.proofs.Away.{is_held_up, may_want, turned_away}
 use Rattle.tier_moves.proofs.OneSteps.{quiet_step_of}
-use Rattle.tier_moves.specs.Begins.{Drops, IsStepOf}
+use Rattle.tier_moves.specs.Begins.{IsStepOf}
+use Rattle.tier_moves.specs.Endings.{Drops}
 use Rattle.tier_moves.specs.declared.begun.Begun.TheVariants.{NoMemory}
 use Rattle.tier_view.specs.Views.{GroupView}
 use Rattle.tier_moves.proofs.turning.turn_away.Goals as goal
