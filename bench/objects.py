@@ -6,7 +6,7 @@
 
 Each row is a script that makes one object and then asks the same small thing of it many times: an
 append of one byte to a small and to a large body, an omapset among few and among many entries, a
-stat. The time of the script without these lines is taken off, so that a row is the time of one
+request that is refused, a stat. The time of the script without these lines is taken off, so that a row is the time of one
 line. A line that writes also reads, spells and commits the whole state, which is linear in the
 object; so a row is told beside its object's size. The disks lie in a folder in memory, where a sync
 costs nothing. All in one call, so that the figures of one call can be compared.
@@ -44,11 +44,13 @@ def rows(lines):
     appended = [f"op 1 {tid} a append 78" for tid in times]
     looked = ["get 1 a stat"] * lines
     entered = [f"op 1 {tid} a omapset {b'k0000'.hex()} {tid:016x}" for tid in times]
-    refused = [f"op 1 {tid} a append 78 ; create" for tid in times]
+    refused = [f"op 1 {tid} a create" for tid in times]
+    undone = [f"op 1 {tid} a append 78 ; create" for tid in times]
     for size in (0, 65_536, MIB // 4, MIB - lines):
         yield f"append of 1 byte to {size} bytes", size, body(size), appended
     for size in (0, MIB - lines):
-        yield f"refused behind an append to {size} bytes", size, body(size), refused
+        yield f"refused on {size} bytes", size, body(size), refused
+        yield f"refused behind an append to {size} bytes", size, body(size), undone
         yield f"stat of {size} bytes", size, body(size), looked
     for count in (16, 256, 1_024):
         yield f"omapset of a key among {count}", 21 * count, omap(count), entered
