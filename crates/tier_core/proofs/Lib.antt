@@ -35,3 +35,5 @@ pub mod ReadLeads
 pub mod ServedAsk
 pub mod Lacked
 pub mod Taken
+pub mod Promoted
+pub mod Chunks

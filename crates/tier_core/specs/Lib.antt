@@ -30,6 +30,8 @@ pub mod Fences
 pub mod Proxies
 pub mod Lands
 pub mod Lacks
+-- how a name is promoted
+pub mod Promotes
 -- how a call is turned away
 pub mod Blocks
 -- when a call is refused
