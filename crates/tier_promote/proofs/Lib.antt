@@ -1,0 +1,2 @@
+mod Flies
+mod Feeds
