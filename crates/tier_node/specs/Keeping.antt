@@ -18,7 +18,7 @@ use Rattle.tier_node.specs.declared.keeping.Whom.{Whom}
 use Rattle.tier_node.specs.declared.keeping.Whom.TheVariants as whom
 use Rattle.tier_node.specs.declared.outcome.Fault.TheVariants as fault
 use Rattle.tier_node.specs.declared.outcome.Outcome.{Outcome}
-use Rattle.tier_node.specs.declared.outcome.Outcome.TheVariants.{Failed, NoMemory, Nothing}
+use Rattle.tier_node.specs.declared.outcome.Outcome.TheVariants.{Failed, NoMemory}
 use Rattle.tier_traffic.specs.Messages.{replied_of, sent_of}
 use Rattle.tier_types.specs.declared.message.BaseMsg.{BaseMsg}
 use Rattle.tier_types.specs.declared.message.BaseReply.{BaseReply}
@@ -112,22 +112,32 @@ refusal_of epoch sent (BaseReply.NoSpace e op used need limit) =
     if e == epoch then Some (refusal.Room used need limit) else None
 refusal_of epoch sent other = None
 
+-- the event's fault, where nobody is told
+abbrev pub told_refused : Refusal → Outcome
+told_refused refusal.Epoch = Failed (fault.Base (base.BadRecord epoch_key))
+told_refused (refusal.Room used need limit) =
+    Failed (fault.Base (base.Store (store.NoSpace used need limit)))
+
 -- By whom it keeps: another epoch is told as a base whose value of its epoch spells nothing, since
 -- no base over a store that tells refuses so. Want of room is not told to a call that ends with its
--- first step.
+-- first step. Where nobody is told, it is the event's.
 abbrev pub RefusesWhom : Whom → Refusal → (old new : GroupView) → Outcome → Type 0
 RefusesWhom (whom.Call turn) refusal.Epoch old new outcome =
     TellsCall turn (answer.BadRecord Base epoch_key) old new outcome
     ⊎ Leaves NoMemory old new outcome
 RefusesWhom (whom.Call turn) (refusal.Room used need limit) old new outcome =
-    IfSo (is_brief_in (entry_of old.calls.entries turn.call)) (Leaves Nothing old new outcome)
+    IfSo (is_brief_in (entry_of old.calls.entries turn.call))
+    (Leaves (told_refused (refusal.Room used need limit)) old new outcome)
     (TellsCall turn (answer.NoSpace Base used need limit) old new outcome)
 RefusesWhom (whom.Line line) refusal.Epoch old new outcome =
     TellsLine line (answer.BadRecord Base epoch_key) old new outcome
     ⊎ Leaves NoMemory old new outcome
 RefusesWhom (whom.Line line) (refusal.Room used need limit) old new outcome =
     TellsLine line (answer.NoSpace Base used need limit) old new outcome
-RefusesWhom whom.Nobody r old new outcome = Leaves Nothing old new outcome
+RefusesWhom whom.Nobody refusal.Epoch old new outcome =
+    Leaves (told_refused refusal.Epoch) old new outcome ⊎ Leaves NoMemory old new outcome
+RefusesWhom whom.Nobody (refusal.Room used need limit) old new outcome =
+    Leaves (told_refused (refusal.Room used need limit)) old new outcome
 
 -- a want of room has numbers that are one
 abbrev pub IsOverIf : Refusal → Type 0

@@ -4,7 +4,7 @@ ghost use Rattle.std.specs.Prelude.{◌≡◌, ◌≤◌, ◌<◌, ◌+◌, true
 ghost use Rattle.tier_chron.specs.Shapes.{is_start_fault};
 ghost use Rattle.tier_core.specs.Held.{entries_limit};
 ghost use Rattle.tier_core.specs.Turns.{HasTurn};
-ghost use Rattle.tier_node.specs.Keeping.{FailsKept, IsForAll, IsKeptWhom, IsOverIf, IsWhom, RefusesKept, RefusesWhom, TellsCall, TellsCallIf, TellsLine, TellsLineIf, base_answer, is_own_fence, is_own_sent, refusal_in, refusal_of, told_failed};
+ghost use Rattle.tier_node.specs.Keeping.{FailsKept, IsForAll, IsKeptWhom, IsOverIf, IsWhom, RefusesKept, RefusesWhom, TellsCall, TellsCallIf, TellsLine, TellsLineIf, base_answer, is_own_fence, is_own_sent, refusal_in, refusal_of, told_failed, told_refused};
 ghost use Rattle.tier_node.specs.Runs.{IsRun};
 ghost use Rattle.tier_node.specs.Tells.{IsSo, IsSoIf, MayBeTold};
 ghost use Rattle.tier_node.specs.declared.keeping.Refusal.TheVariants as refusal;
@@ -243,6 +243,23 @@ fn deny_line<P: Store>(g: &mut Group<P>, line: u32) -> Outcome
     }
 }
 
+// What is told where nobody is kept, and the base is at another epoch.
+fn deny_nobody<P: Store>(g: &Group<P>) -> Outcome
+    ensures { RefusesWhom whom.Nobody refusal.Epoch g.now g.now result }
+{
+    match epoch_name(g.alloc()) {
+        Ok(name) => Outcome::Failed(Fault::Base(BaseFault::BadRecord { name })),
+        Err(_) => Outcome::NoMemory,
+    }
+}
+
+// What is told where nobody is told that there was no room for the epoch.
+fn told_room(used: u64, need: u64, limit: u64) -> Outcome
+    ensures { result ≡ told_refused (refusal.Room used need limit) }
+{
+    Outcome::Failed(Fault::Base(BaseFault::Store(StoreFault::NoSpace { used, need, limit })))
+}
+
 // Tells a call that there was no room for the epoch, unless it ends with its first step.
 fn lack_call<P: Store>(g: &mut Group<P>, turn: Turn, used: u64, need: u64, limit: u64) -> Outcome
     requires turn { HasTurn g.old turn.call turn }
@@ -251,7 +268,7 @@ fn lack_call<P: Store>(g: &mut Group<P>, turn: Turn, used: u64, need: u64, limit
     ensures run { IsRun g.old g.new }
 {
     if is_brief_in(g.call(turn.call)) {
-        return Outcome::Nothing;
+        return told_room(used, need, limit);
     }
     tell_call(
         g,
@@ -266,7 +283,7 @@ fn lack_call<P: Store>(g: &mut Group<P>, turn: Turn, used: u64, need: u64, limit
 }
 
 /// Tells those whom the last Fence keeps that it was refused, once: a call in flight, or a line as
-/// a call of its own.
+/// a call of its own. Where nobody is told, it is the event's fault.
 pub(crate) fn refuse_kept<P: Store>(g: &mut Group<P>, refusal: Refusal) -> Outcome
     requires { IsOverIf refusal }
     ensures refuses { RefusesKept refusal g.old g.new result }
@@ -288,6 +305,7 @@ pub(crate) fn refuse_kept<P: Store>(g: &mut Group<P>, refusal: Refusal) -> Outco
         (Whom::Call(turn), Refusal::Room { used, need, limit }) => {
             lack_call(g, turn, used, need, limit)
         }
-        (Whom::Nobody, _) => Outcome::Nothing,
+        (Whom::Nobody, Refusal::Epoch) => deny_nobody(g),
+        (Whom::Nobody, Refusal::Room { used, need, limit }) => told_room(used, need, limit),
     }
 }

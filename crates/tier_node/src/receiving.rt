@@ -145,8 +145,7 @@ fn take_lack<P: Store>(g: &mut Group<P>, reply: u64) -> Outcome
     }
 }
 
-// Takes a reply that tells what became of a write request, if one under way waits for it that a call
-// drives.
+// Takes a reply that tells what became of a write request, if one is under way that a call drives.
 fn receive_write<P: Store>(g: &mut Group<P>, reply: u64) -> Outcome
     ensures steps { ReceivesWrite reply g.old g.new result }
     ensures run { IsRun g.old g.new }
@@ -161,8 +160,8 @@ fn receive_write<P: Store>(g: &mut Group<P>, reply: u64) -> Outcome
     }
 }
 
-// Takes a reply that tells of want of room for work, if a write request under way waits for it that
-// a client's call drives.
+// Takes a reply that tells of want of room for work, if that is a write request under way that a
+// client's call drives.
 fn receive_lack<P: Store>(g: &mut Group<P>, reply: u64) -> Outcome
     ensures steps { ReceivesLack reply g.old g.new result }
     ensures run { IsRun g.old g.new }
