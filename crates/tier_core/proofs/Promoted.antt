@@ -34,13 +34,17 @@ use Rattle.tier_core.proofs.Proxied.{awaiting_keeps}
 
 -- ---- it begins
 
-module _ (v : GroupView) (call : ℕ) (ask : Ask) (h : IsWhole v) (b : BeginsPromotion v call ask) where
+module _ (v : GroupView) (call : ℕ) (ask : Ask) (h : IsWhole v)
+    (b : BeginsPromotion v call ask) where
   abbrev W : GroupView
   W = flown_promotion call ask v
 
-  pub new_is_new : IsNewBy has_opid v.traffic.flights (Flight.Promote call v.standing.next_opid [] ask) × IsNewBy has_call v.traffic.flights (Flight.Promote call v.standing.next_opid [] ask)
+  pub new_is_new : IsNewBy has_opid v.traffic.flights
+      (Flight.Promote call v.standing.next_opid [] ask) × IsNewBy has_call v.traffic.flights
+      (Flight.Promote call v.standing.next_opid [] ask)
   new_is_new =
-      let is = new_work_is_new v call (Flight.Promote call v.standing.next_opid [] ask) h b.may.idle (refl, refl) in
+      let is = new_work_is_new v call (Flight.Promote call v.standing.next_opid [] ask) h b.may.idle
+      (refl, refl) in
       (is.1, is.2)
 
   -- it begins, asks for the first chunk, and its call awaits the reply, in one step
@@ -50,22 +54,35 @@ module _ (v : GroupView) (call : ℕ) (ask : Ask) (h : IsWhole v) (b : BeginsPro
       let going : IsInFlight v.calls.entries call = subst IsGoing (sym b.may.found) b.may.going in
       let waits = awaiting_keeps W call v.traffic.next_message first.0 going (omega arith) in
       let then : KeepsQuietly W (promotion_begun call ask v) =
-      leaving_is_quiet W (promotion_begun call ask v) waits (record { stores = refl; log = refl; calls = refl; epoch = refl; opids = refl }) in
-      (then.0, steps_join_quiet as_it_is None v W (promotion_begun call ask v) first.1 then.1 (inl refl) (inr refl))
+      leaving_is_quiet W (promotion_begun call ask v) waits
+      (record { stores = refl; log = refl; calls = refl; epoch = refl; opids = refl }) in (
+        then.0,
+        steps_join_quiet as_it_is None v W (promotion_begun call ask v) first.1 then.1
+            (inl refl) (inr refl),
+      )
 
-  begun_kept : (base : BaseView) (old new : TableView) → IsKept v base old → new.earlier ≡ old.earlier → IsKept (promotion_begun call ask v) base new
+  begun_kept : (base : BaseView) (old new : TableView) → IsKept v base old
+      → new.earlier ≡ old.earlier → IsKept (promotion_begun call ask v) base new
   begun_kept base old new k earlier = record {
     whole = begun_step.0;
     cached = k.cached;
     based = k.based;
     level = k.level;
-    counted = subst (λ n. v.standing.next_opid + 1 + n ≡ length (v.calls.flown ++ promotion_flown call v.standing.next_opid (length v.log.answers) ask ∷ []) + 1) (sym earlier)
-        (omega (arith, k.counted, length_push v.calls.flown (promotion_flown call v.standing.next_opid (length v.log.answers) ask)));
+    counted = subst (λ n. v.standing.next_opid + 1 + n ≡ length
+        (v.calls.flown ++ promotion_flown call v.standing.next_opid
+        (length v.log.answers) ask ∷ []) + 1) (sym earlier)
+        (omega (
+          arith,
+          k.counted,
+          length_push v.calls.flown
+              (promotion_flown call v.standing.next_opid (length v.log.answers) ask),
+        ));
     messages = (tt, k.messages);
     asked = k.asked;
   }
 
-module _ (stores : Stores) (log : Log) (t u : TableView) (w x : WiresView) (start after : Start) (agent : Agent) (base : BaseView) (call : ℕ) (ask : Ask) where
+module _ (stores : Stores) (log : Log) (t u : TableView) (w x : WiresView) (start after : Start)
+    (agent : Agent) (base : BaseView) (call : ℕ) (ask : Ask) where
   abbrev Old : GroupView
   Old = group_of stores log t.calls w.traffic start agent
 
@@ -78,7 +95,8 @@ module _ (stores : Stores) (log : Log) (t u : TableView) (w x : WiresView) (star
   abbrev Flies : Traffic
   Flies = promotion_flies call start.cache_epoch start.next_opid ask w.traffic
 
-  begun_is : u.calls ≡ Come → x.traffic ≡ Flies → after ≡ counted start → New ≡ promotion_begun call ask Old
+  begun_is : u.calls ≡ Come → x.traffic ≡ Flies → after ≡ counted start
+      → New ≡ promotion_begun call ask Old
   begun_is calls wires started =
       ap (λ (c : Calls). group_of stores log c x.traffic after agent) calls
       ∙ ap (λ (f : Traffic). group_of stores log Come f after agent) wires
@@ -97,12 +115,16 @@ module _ (stores : Stores) (log : Log) (t u : TableView) (w x : WiresView) (star
     pub step : OnOk result (Keeps as_it_is None Old New)
     pub same : OnErr result (New ≡ Old)
 
-  pub begun_all : IsKept Old base t → BeginsPromotion Old call ask → u.earlier ≡ t.earlier → {X E : Type 0} (result : Result X E) → OnOk result (u.calls ≡ Come)
-      → OnOk result (x.traffic ≡ Flies) → OnOk result (after ≡ counted start) → OnErr result (u.calls ≡ t.calls) → OnErr result (x.traffic ≡ w.traffic) → OnErr result (after ≡ start) → Begun result
+  pub begun_all : IsKept Old base t → BeginsPromotion Old call ask → u.earlier ≡ t.earlier
+      → {X E : Type 0} (result : Result X E) → OnOk result (u.calls ≡ Come)
+      → OnOk result (x.traffic ≡ Flies) → OnOk result (after ≡ counted start)
+      → OnErr result (u.calls ≡ t.calls) → OnErr result (x.traffic ≡ w.traffic)
+      → OnErr result (after ≡ start) → Begun result
   begun_all h may earlier (Ok y) calls wires started calls_stay wires_stay start_stays =
       let is : New ≡ promotion_begun call ask Old = begun_is calls wires started in
       record {
-        kept = subst (λ (v : GroupView). IsKept v base u) (sym is) (begun_kept Old call ask h.whole may base t u h earlier);
+        kept = subst (λ (v : GroupView). IsKept v base u) (sym is)
+            (begun_kept Old call ask h.whole may base t u h earlier);
         is = is;
         step = subst (Keeps as_it_is None Old) (sym is) (begun_step Old call ask h.whole may);
         same = tt;
@@ -115,7 +137,8 @@ module _ (stores : Stores) (log : Log) (t u : TableView) (w x : WiresView) (star
           cached = h.cached;
           based = h.based;
           level = h.level;
-          counted = subst (λ n. start.next_opid + n ≡ length t.calls.flown + 1) (sym earlier) h.counted;
+          counted = subst (λ n. start.next_opid + n ≡ length t.calls.flown + 1)
+              (sym earlier) h.counted;
           messages = h.messages;
           asked = h.asked;
         });

@@ -28,12 +28,14 @@ module _ (t : Traffic) (epoch number : ℕ) where
           (record {
             name = told.0.name;
             req = told.1.req;
-            flight = told.1.flight ∙ ap (λ (x : Wrote). Some (Flight.Write (Some told.0.driver) told.0.owner x.opid told.1.req))
+            flight = told.1.flight ∙ ap (λ (x : Wrote). Some (Flight.Write
+                (Some told.0.driver) told.0.owner x.opid told.1.req))
                 (one_wrote t epoch number told.0.wrote w (sym told.1.wrote ∙ at));
           }))),
     )
 
-    pub tells_driven : (d : Option (ℕ × ℕ)) (result : Bool) → result ≡ is_some d → TellsDriven t.flights w.opid d
+    pub tells_driven : (d : Option (ℕ × ℕ)) (result : Bool) → result ≡ is_some d
+        → TellsDriven t.flights w.opid d
         → IsTrue result ↔ IsToldOf t epoch number
     tells_driven d result is h =
         subst (λ (b : Bool). IsTrue b ↔ IsToldOf t epoch number) (sym is) (driven_told d h)
@@ -44,7 +46,9 @@ module _ (log : Log) (entries : List Entry) (t : Traffic) (epoch number : ℕ) w
   lacked_told (Some l) h = ((λ yes. (l, h)), (λ told. refl))
   lacked_told None h = ((λ no. absurd (cc)), (λ told. absurd (h told.0 told.1)))
 
-  pub tells_lacked : (l : Option Logged) (result : Bool) → result ≡ is_some l → TellsLacked log entries t epoch number l
+  pub tells_lacked : (l : Option Logged) (result : Bool) → result ≡ is_some l
+      → TellsLacked log entries t epoch number l
       → IsTrue result ↔ IsLackedOf log entries t epoch number
   tells_lacked l result is h =
-      subst (λ (b : Bool). IsTrue b ↔ IsLackedOf log entries t epoch number) (sym is) (lacked_told l h)
+      subst (λ (b : Bool). IsTrue b ↔ IsLackedOf log entries t epoch number) (sym is)
+      (lacked_told l h)

@@ -16,11 +16,16 @@ use Rattle.tier_core.proofs.group.Group.fly_promotion.Goals as goal
 pub begin_parts-requires : goal.begin_parts-requires
 begin_parts-requires g c =
     let i = c.self.inside in
-    let stores : Stores = stores_of (g.P.Store.state i.cache) i.base i.cache_stopped i.base_stopped i.pending in
-    let old : GroupView = group_of stores i.history.log i.calls.calls i.wires.traffic i.start i.agent in
-    let may : BeginsPromotion old c.args.call c.args.ask = subst (λ (v : GroupView). BeginsPromotion v c.args.call c.args.ask) (sym c.self.view_is) c.requires.may in
+    let stores : Stores = stores_of (g.P.Store.state i.cache) i.base i.cache_stopped i.base_stopped
+    i.pending in
+    let old : GroupView = group_of stores i.history.log i.calls.calls i.wires.traffic i.start
+    i.agent in
+    let may : BeginsPromotion old c.args.call c.args.ask = subst (λ
+    (v : GroupView). BeginsPromotion v c.args.call c.args.ask)
+    (sym c.self.view_is) c.requires.may in
     record {
-      low = subst (λ (v : GroupView). v.standing.next_opid < number_limit) (sym c.self.view_is) c.requires.low;
+      low = subst (λ (v : GroupView). v.standing.next_opid < number_limit)
+          (sym c.self.view_is) c.requires.low;
       next = c.self.invariant.counted;
       free = may.free;
       operation = (new_is_new old c.args.call c.args.ask c.self.invariant.whole may).0;
@@ -32,13 +37,22 @@ invariant_of-self g c =
     let i = c.self.inside in
     let b = c.begin_parts in
     let e = b.ensures in
-    let stores : Stores = stores_of (g.P.Store.state i.cache) i.base i.cache_stopped i.base_stopped i.pending in
-    let old : GroupView = group_of stores i.history.log i.calls.calls i.wires.traffic i.start i.agent in
-    let may : BeginsPromotion old c.args.call c.args.ask = subst (λ (v : GroupView). BeginsPromotion v c.args.call c.args.ask) (sym c.self.view_is) c.requires.may in
-    let count : length c.answers.result.now ≡ length i.history.log.answers = ap {A = List Logged} length c.answers.ensures in
-    let calls = subst (λ (k : ℕ). OnOk b.result (b.new.calls.calls ≡ with_flown (promotion_flown c.args.call i.start.next_opid k c.args.ask) i.calls.calls)) count e.calls in
+    let stores : Stores = stores_of (g.P.Store.state i.cache) i.base i.cache_stopped i.base_stopped
+    i.pending in
+    let old : GroupView = group_of stores i.history.log i.calls.calls i.wires.traffic i.start
+    i.agent in
+    let may : BeginsPromotion old c.args.call c.args.ask = subst (λ
+    (v : GroupView). BeginsPromotion v c.args.call c.args.ask)
+    (sym c.self.view_is) c.requires.may in
+    let count : length c.answers.result.now ≡ length i.history.log.answers = ap {A = List Logged}
+    length c.answers.ensures in
+    let calls = subst (λ (k : ℕ). OnOk b.result (b.new.calls.calls ≡ with_flown
+    (promotion_flown c.args.call i.start.next_opid k c.args.ask) i.calls.calls)) count e.calls
+    in
     let all =
-    begun_all stores i.history.log i.calls b.new.calls i.wires b.new.wires i.start b.new.start i.agent i.base c.args.call c.args.ask c.self.invariant may e.earlier b.result calls e.wires e.start e.calls_stay
+    begun_all stores i.history.log i.calls b.new.calls i.wires b.new.wires i.start b.new.start
+    i.agent i.base c.args.call c.args.ask c.self.invariant may e.earlier b.result calls e.wires
+    e.start e.calls_stay
     e.wires_stay e.start_stays in
     all.kept
 
@@ -47,18 +61,31 @@ returns g c =
     let i = c.self.inside in
     let b = c.begin_parts in
     let e = b.ensures in
-    let stores : Stores = stores_of (g.P.Store.state i.cache) i.base i.cache_stopped i.base_stopped i.pending in
-    let old : GroupView = group_of stores i.history.log i.calls.calls i.wires.traffic i.start i.agent in
-    let new : GroupView = group_of stores i.history.log b.new.calls.calls b.new.wires.traffic b.new.start i.agent in
-    let may : BeginsPromotion old c.args.call c.args.ask = subst (λ (v : GroupView). BeginsPromotion v c.args.call c.args.ask) (sym c.self.view_is) c.requires.may in
-    let count : length c.answers.result.now ≡ length i.history.log.answers = ap {A = List Logged} length c.answers.ensures in
-    let calls = subst (λ (k : ℕ). OnOk b.result (b.new.calls.calls ≡ with_flown (promotion_flown c.args.call i.start.next_opid k c.args.ask) i.calls.calls)) count e.calls in
+    let stores : Stores = stores_of (g.P.Store.state i.cache) i.base i.cache_stopped i.base_stopped
+    i.pending in
+    let old : GroupView = group_of stores i.history.log i.calls.calls i.wires.traffic i.start
+    i.agent in
+    let new : GroupView = group_of stores i.history.log b.new.calls.calls b.new.wires.traffic
+    b.new.start i.agent in
+    let may : BeginsPromotion old c.args.call c.args.ask = subst (λ
+    (v : GroupView). BeginsPromotion v c.args.call c.args.ask)
+    (sym c.self.view_is) c.requires.may in
+    let count : length c.answers.result.now ≡ length i.history.log.answers = ap {A = List Logged}
+    length c.answers.ensures in
+    let calls = subst (λ (k : ℕ). OnOk b.result (b.new.calls.calls ≡ with_flown
+    (promotion_flown c.args.call i.start.next_opid k c.args.ask) i.calls.calls)) count e.calls
+    in
     let all =
-    begun_all stores i.history.log i.calls b.new.calls i.wires b.new.wires i.start b.new.start i.agent i.base c.args.call c.args.ask c.self.invariant may e.earlier b.result calls e.wires e.start e.calls_stay
+    begun_all stores i.history.log i.calls b.new.calls i.wires b.new.wires i.start b.new.start
+    i.agent i.base c.args.call c.args.ask c.self.invariant may e.earlier b.result calls e.wires
+    e.start e.calls_stay
     e.wires_stay e.start_stays in
     record {
-      number = subst (λ (v : GroupView). IfOk b.result (λ (n : ℕ). n ≡ v.traffic.next_message)) c.self.view_is e.number;
-      begun = subst (λ (v : GroupView). OnOk b.result (new ≡ promotion_begun c.args.call c.args.ask v)) c.self.view_is all.is;
-      step = subst (λ (v : GroupView). OnOk b.result (Keeps as_it_is None v new)) c.self.view_is all.step;
+      number = subst (λ (v : GroupView). IfOk b.result (λ
+          (n : ℕ). n ≡ v.traffic.next_message)) c.self.view_is e.number;
+      begun = subst (λ (v : GroupView). OnOk b.result
+          (new ≡ promotion_begun c.args.call c.args.ask v)) c.self.view_is all.is;
+      step = subst (λ (v : GroupView). OnOk b.result
+          (Keeps as_it_is None v new)) c.self.view_is all.step;
       refused = subst (λ (v : GroupView). OnErr b.result (new ≡ v)) c.self.view_is all.same;
     }

@@ -11,22 +11,32 @@ pub invariant_of-self : goal.invariant_of-self
 invariant_of-self g c =
     let i = c.self.inside in
     let b = c.gather in
-    let stores : Stores = stores_of (g.P.Store.state i.cache) i.base i.cache_stopped i.base_stopped i.pending in
-    let old : GroupView = group_of stores i.history.log i.calls.calls i.wires.traffic i.start i.agent in
-    let none : i.pending ≡ None = ap (λ (v : GroupView). v.stores.pending) c.self.view_is ∙ c.requires.settled in
-    (gathers_all old i.base i.calls c.self.invariant none c.args.reply b.new.wires.traffic b.result b.ensures.gathers b.ensures.refused).kept
+    let stores : Stores = stores_of (g.P.Store.state i.cache) i.base i.cache_stopped i.base_stopped
+    i.pending in
+    let old : GroupView = group_of stores i.history.log i.calls.calls i.wires.traffic i.start
+    i.agent in
+    let none : i.pending ≡ None = ap (λ (v : GroupView). v.stores.pending) c.self.view_is
+    ∙ c.requires.settled in
+    (gathers_all old i.base i.calls c.self.invariant none c.args.reply b.new.wires.traffic b.result
+    b.ensures.gathers b.ensures.refused).kept
 
 pub returns : goal.returns
 returns g c =
     let i = c.self.inside in
     let b = c.gather in
-    let stores : Stores = stores_of (g.P.Store.state i.cache) i.base i.cache_stopped i.base_stopped i.pending in
-    let old : GroupView = group_of stores i.history.log i.calls.calls i.wires.traffic i.start i.agent in
-    let new : GroupView = group_of stores i.history.log i.calls.calls b.new.wires.traffic i.start i.agent in
-    let none : i.pending ≡ None = ap (λ (v : GroupView). v.stores.pending) c.self.view_is ∙ c.requires.settled in
-    let all = gathers_all old i.base i.calls c.self.invariant none c.args.reply b.new.wires.traffic b.result b.ensures.gathers b.ensures.refused in
+    let stores : Stores = stores_of (g.P.Store.state i.cache) i.base i.cache_stopped i.base_stopped
+    i.pending in
+    let old : GroupView = group_of stores i.history.log i.calls.calls i.wires.traffic i.start
+    i.agent in
+    let new : GroupView = group_of stores i.history.log i.calls.calls b.new.wires.traffic i.start
+    i.agent in
+    let none : i.pending ≡ None = ap (λ (v : GroupView). v.stores.pending) c.self.view_is
+    ∙ c.requires.settled in
+    let all = gathers_all old i.base i.calls c.self.invariant none c.args.reply b.new.wires.traffic
+    b.result b.ensures.gathers b.ensures.refused in
     record {
-      gathers = subst (λ (v : GroupView). IfOk b.result (Gathers c.args.reply v new)) c.self.view_is all.is;
+      gathers = subst (λ (v : GroupView). IfOk b.result
+          (Gathers c.args.reply v new)) c.self.view_is all.is;
       step = subst (λ (v : GroupView). OnOk b.result (KeepsQuietly v new)) c.self.view_is all.step;
       refused = subst (λ (v : GroupView). OnErr b.result (new ≡ v)) c.self.view_is all.same;
     }
